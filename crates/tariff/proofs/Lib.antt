@@ -1,0 +1,3 @@
+pub mod Fees
+pub mod Quotients
+pub mod Ranges

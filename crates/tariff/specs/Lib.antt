@@ -1,0 +1,4 @@
+pub mod Codes
+pub mod Fees
+pub mod Quotients
+pub mod Ranges
