@@ -1,0 +1,3 @@
+pub mod FirstMatch
+pub mod Orders
+pub mod SpanOrder

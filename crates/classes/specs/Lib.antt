@@ -1,0 +1,7 @@
+pub mod Determinants
+pub mod Entries
+pub mod Keys
+pub mod Outcomes
+pub mod Spans
+pub mod Times
+pub mod Vehicles

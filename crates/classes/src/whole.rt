@@ -1,0 +1,19 @@
+// One class for everything.
+ghost use Rattle.classes.specs.Determinants.{whole};
+use crate::determinant::Determinant;
+use crate::usage::Usage;
+
+#[derive(Clone, Copy)]
+pub struct Whole;
+
+pub impl Determinant for Whole as WholeDeterminant {
+    ghost meaning = { λ _. whole };
+
+    fn count(&self) -> u8 {
+        1
+    }
+
+    fn class(&self, _usage: &Usage) -> u8 {
+        1
+    }
+}
