@@ -12,7 +12,7 @@ use Rattle.std.specs.declared.option.Option.the-variants.{Some, None}
 use Rattle.std.proofs.shelf.Lists.{drop-all, drop-more}
 use Rattle.std.proofs.shelf.Tests.{true≢false, both-ways, and-parts, and-from, not-true, not-from-false, cases-order, cases-bool}
 use Rattle.classes.specs.declared.spans.Span.{Span}
-use Rattle.classes.specs.Spans.{span-covers, after, follows, ordered, ordered-from, InOrder, NoKeyTwice}
+use Rattle.classes.specs.Spans.{span-covers, after-high, span-follows, spans-ordered, spans-ordered-from, InOrder, NoKeyTwice}
 
 module _ {K : Type 0} (upto : K → K → Bool) where
   -- a loop over the spans, at index i
@@ -20,31 +20,31 @@ module _ {K : Type 0} (upto : K → K → Bool) where
     rest : drop i ss ≡ s ∷ drop (i + 1) ss
     rest = drop-more ss i s within ∙ ap (λ x. x ∷ drop (i + 1) ss) (sym read)
 
-    pub ordered-stops : false ≡ follows upto before s → ordered-from upto before (drop i ss) ≡ false
+    pub ordered-stops : false ≡ span-follows upto before s → spans-ordered-from upto before (drop i ss) ≡ false
     ordered-stops h = rw rest (rw (sym h) refl)
 
-    pub ordered-next : true ≡ follows upto before s → ordered-from upto before (drop i ss) ≡ ordered-from upto (Some (s .high)) (drop (i + 1) ss)
+    pub ordered-next : true ≡ span-follows upto before s → spans-ordered-from upto before (drop i ss) ≡ spans-ordered-from upto (Some (s .high)) (drop (i + 1) ss)
     ordered-next h = rw rest (rw (sym h) refl)
 
   -- from the test to the facts
-  parts : (before : Option K) (s : Span K) (ss : List (Span K)) → ordered-from upto before (s ∷ ss) ≡ true → (after upto before (s .low) ≡ true) × (upto (s .low) (s .high) ≡ true) × (ordered-from upto (Some (s .high)) ss ≡ true)
+  parts : (before : Option K) (s : Span K) (ss : List (Span K)) → spans-ordered-from upto before (s ∷ ss) ≡ true → (after-high upto before (s .low) ≡ true) × (upto (s .low) (s .high) ≡ true) × (spans-ordered-from upto (Some (s .high)) ss ≡ true)
   parts before s ss h =
-      let both = and-parts (follows upto before s) (ordered-from upto (Some (s .high)) ss) h in
-      let here = and-parts (after upto before (s .low)) (upto (s .low) (s .high)) (both .0) in
+      let both = and-parts (span-follows upto before s) (spans-ordered-from upto (Some (s .high)) ss) h in
+      let here = and-parts (after-high upto before (s .low)) (upto (s .low) (s .high)) (both .0) in
       (here .0, here .1, both .1)
 
-  forward : (before : Option K) (ss : List (Span K)) → ordered-from upto before ss ≡ true → (i : ℕ) (d : Span K) → i < length ss → upto (getD ss i d .low) (getD ss i d .high) ≡ true
+  forward : (before : Option K) (ss : List (Span K)) → spans-ordered-from upto before ss ≡ true → (i : ℕ) (d : Span K) → i < length ss → upto (getD ss i d .low) (getD ss i d .high) ≡ true
   forward before [] h i d lt = absurd (omega arith)
   forward before (s ∷ ss) h zero d lt = parts before s ss h .1
   forward before (s ∷ ss) h (suc i) d lt = forward (Some (s .high)) ss (parts before s ss h .2) i d (omega arith)
 
-  rising : (before : Option K) (ss : List (Span K)) → ordered-from upto before ss ≡ true → (i : ℕ) (d : Span K) → suc i < length ss → upto (getD ss (suc i) d .low) (getD ss i d .high) ≡ false
+  rising : (before : Option K) (ss : List (Span K)) → spans-ordered-from upto before ss ≡ true → (i : ℕ) (d : Span K) → suc i < length ss → upto (getD ss (suc i) d .low) (getD ss i d .high) ≡ false
   rising before [] h i d lt = absurd (omega arith)
   rising before (s ∷ []) h i d lt = absurd (omega arith)
   rising before (s ∷ t ∷ ss) h zero d lt = not-true _ (parts (Some (s .high)) t ss (parts before s (t ∷ ss) h .2) .0)
   rising before (s ∷ t ∷ ss) h (suc i) d lt = rising (Some (s .high)) (t ∷ ss) (parts before s (t ∷ ss) h .2) i d (omega arith)
 
-  pub in-order : (ss : List (Span K)) → ordered upto ss ≡ true → InOrder upto ss
+  pub in-order : (ss : List (Span K)) → spans-ordered upto ss ≡ true → InOrder upto ss
   in-order ss h = record {
     forward = forward None ss h;
     rising = λ i d lt. rw add-one (rising None ss h i d (omega arith));
@@ -57,15 +57,15 @@ module _ {K : Type 0} (upto : K → K → Bool) where
     rising = λ i d lt. let e : suc i + 1 ≡ suc (i + 1) = omega arith in rw e at (h .rising (suc i) d (omega arith));
   }
 
-  ordered-back : (before : Option K) (ss : List (Span K)) → ((d : Span K) → 0 < length ss → after upto before (getD ss 0 d .low) ≡ true) → InOrder upto ss → ordered-from upto before ss ≡ true
+  ordered-back : (before : Option K) (ss : List (Span K)) → ((d : Span K) → 0 < length ss → after-high upto before (getD ss 0 d .low) ≡ true) → InOrder upto ss → spans-ordered-from upto before ss ≡ true
   ordered-back before [] first h = refl
   ordered-back before (s ∷ ss) first h =
-      and-from (follows upto before s) (ordered-from upto (Some (s .high)) ss)
-      (and-from (after upto before (s .low)) (upto (s .low) (s .high)) (first s (omega arith)) (h .forward 0 s (omega arith)))
+      and-from (span-follows upto before s) (spans-ordered-from upto (Some (s .high)) ss)
+      (and-from (after-high upto before (s .low)) (upto (s .low) (s .high)) (first s (omega arith)) (h .forward 0 s (omega arith)))
       (ordered-back (Some (s .high)) ss (λ d lt. not-from-false (upto (getD ss 0 d .low) (s .high)) (h .rising 0 d (omega arith))) (tail s ss h))
 
-  pub ordered-from-facts : (ss : List (Span K)) → InOrder upto ss → ordered upto ss ≡ true
-  ordered-from-facts ss h = ordered-back None ss (λ d lt. refl) h
+  pub spans-ordered-back : (ss : List (Span K)) → InOrder upto ss → spans-ordered upto ss ≡ true
+  spans-ordered-back ss h = ordered-back None ss (λ d lt. refl) h
 
   -- the order's laws: of two keys one is not after the other, and "not after" carries through a third key
   module _ (total : (a b : K) → upto a b ≡ false → upto b a ≡ true) (carries : (a b c : K) → upto a b ≡ true → upto b c ≡ true → upto a c ≡ true) (ss : List (Span K)) (h : InOrder upto ss) where

@@ -11,5 +11,5 @@ pub record Meaning : Type 0 where
   pub within : (u : Usage) → class u ≤ count
 
 -- one class for everything
-abbrev pub whole : Meaning
-whole = record { count = 1; class = λ _. 1; within = λ _. lit≤ tt }
+abbrev pub whole-meaning : Meaning
+whole-meaning = record { count = 1; class = λ _. 1; within = λ _. lit≤ tt }

@@ -2,9 +2,10 @@
 use mathlib.Core.Bool.{Bool, true, cond, _&&_}
 use mathlib.Core.List.{List, [], _∷_}
 use mathlib.Core.Path.{_≡_}
-use Prim.Native.Nat.{ℕ, _≤_}
+use Prim.Native.Nat.{ℕ, _≤_, _<_}
 use native.Mathlib.Omega.{arith}
 use lib.Dec.{leb}
+use lib.ListN.{length, getD}
 use Rattle.std.proofs.shelf.Tests.{and-parts, cond-both, leb-true}
 use Rattle.classes.specs.declared.usage.Usage.{Usage}
 use Rattle.classes.specs.Determinants.{Meaning}
@@ -17,6 +18,18 @@ usable count class = leb 1 class && leb class count
 abbrev pub first-class : {E : Type 0} → (E → ℕ) → (E → Bool) → ℕ → List E → ℕ
 first-class given covers count [] = 0
 first-class given covers count (e ∷ es) = cond (usable count (given e) && covers e) (given e) (first-class given covers count es)
+
+module _ {E : Type 0} (given : E → ℕ) (covers : E → Bool) (count : ℕ) where
+  -- the entry's class is from 1 to the count, and it covers what is asked
+  pub record Applies (e : E) : Type 0 where
+    pub low : 1 ≤ given e
+    pub high : given e ≤ count
+    pub covering : covers e ≡ true
+
+  -- what the class means: 0 where no entry applies, else that of an entry that applies, and none before it does
+  pub record FirstApplies (es : List E) (class : ℕ) : Type 0 where
+    pub none : class ≡ 0 → (i : ℕ) (d : E) → i < length es → Applies (getD es i d) → ⊥
+    pub some : 0 < class → (i : ℕ) × (i < length es) × ((d : E) → Applies (getD es i d) × (class ≡ given (getD es i d)) × ((j : ℕ) → j < i → Applies (getD es j d) → ⊥))
 
 usable-le : (count class : ℕ) (covers : Bool) → (usable count class && covers) ≡ true → class ≤ count
 usable-le count class covers h =

@@ -13,8 +13,9 @@ use Rattle.classes.specs.declared.refusal.Role.the-variants.{Vehicle, Time, Lo
 
 pub data Outcome (A : Type 0) : Type 0 where
   accepted : A → Outcome A
-  refused : ℕ → List ℕ → Outcome A
+  refusal : ℕ × List ℕ → Outcome A
 
+-- determinants are numbered from 1
 abbrev pub role-number : Role → ℕ
 role-number Vehicle = 1
 role-number Time = 2
@@ -22,22 +23,22 @@ role-number Location = 3
 role-number User = 4
 
 -- the number of each refusal, and its values
-abbrev pub refusal-outcome : {A : Type 0} → Refusal → Outcome A
-refusal-outcome (NoClass role) = refused 16 (role-number role ∷ [])
+abbrev pub numbered : Refusal → ℕ × List ℕ
+numbered (NoClass role) = (16, role-number role ∷ [])
 
 abbrev pub outcome : {A : Type 0} → Result A Refusal → Outcome A
 outcome (Ok x) = accepted x
-outcome (Err e) = refusal-outcome e
+outcome (Err e) = refusal (numbered e)
 
 -- one class, from the determinant with this number: 0 is no class
 abbrev pub class-outcome : ℕ → ℕ → Outcome ℕ
-class-outcome number class = cond (eqb class 0) (refused 16 (number ∷ [])) (accepted class)
+class-outcome number class = cond (eqb class 0) (refusal (16, number ∷ [])) (accepted class)
 
 -- four classes: the first that is 0 refuses
 abbrev pub classes-outcome : ℕ → ℕ → ℕ → ℕ → Outcome Classes
 classes-outcome v t l u =
-    cond (eqb v 0) (refused 16 (1 ∷ []))
-    (cond (eqb t 0) (refused 16 (2 ∷ []))
-    (cond (eqb l 0) (refused 16 (3 ∷ []))
-    (cond (eqb u 0) (refused 16 (4 ∷ []))
+    cond (eqb v 0) (refusal (16, 1 ∷ []))
+    (cond (eqb t 0) (refusal (16, 2 ∷ []))
+    (cond (eqb l 0) (refusal (16, 3 ∷ []))
+    (cond (eqb u 0) (refusal (16, 4 ∷ []))
     (accepted (record { vehicle = v; time = t; location = l; user = u })))))

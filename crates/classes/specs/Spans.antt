@@ -17,21 +17,21 @@ module _ {K : Type 0} (upto : K → K → Bool) where
   span-covers s key = upto (s .low) key && upto key (s .high)
 
   -- the key is after the high before it, if there is one
-  abbrev pub after : Option K → K → Bool
-  after None key = true
-  after (Some high) key = not (upto key high)
+  abbrev pub after-high : Option K → K → Bool
+  after-high None key = true
+  after-high (Some high) key = not (upto key high)
 
   -- the span runs forward, from after the high before it
-  abbrev pub follows : Option K → Span K → Bool
-  follows before s = after before (s .low) && upto (s .low) (s .high)
+  abbrev pub span-follows : Option K → Span K → Bool
+  span-follows before s = after-high before (s .low) && upto (s .low) (s .high)
 
   -- each span follows the one before it
-  abbrev pub ordered-from : Option K → List (Span K) → Bool
-  ordered-from before [] = true
-  ordered-from before (s ∷ ss) = follows before s && ordered-from (Some (s .high)) ss
+  abbrev pub spans-ordered-from : Option K → List (Span K) → Bool
+  spans-ordered-from before [] = true
+  spans-ordered-from before (s ∷ ss) = span-follows before s && spans-ordered-from (Some (s .high)) ss
 
-  abbrev pub ordered : List (Span K) → Bool
-  ordered ss = ordered-from None ss
+  abbrev pub spans-ordered : List (Span K) → Bool
+  spans-ordered ss = spans-ordered-from None ss
 
   -- no low is after its high, and each later low is after the high before it
   pub record InOrder (ss : List (Span K)) : Type 0 where

@@ -2,7 +2,7 @@
 ghost use mathlib.Core.Bool.{Bool, _&&_};
 ghost use mathlib.Core.Path.{_≡_};
 ghost use Prim.Native.Nat.{ℕ};
-ghost use Rattle.classes.specs.Entries.{usable, first-class};
+ghost use Rattle.classes.specs.Entries.{usable, first-class, FirstApplies};
 
 pub trait Entry<Q> {
     // The class that the entry gives.
@@ -28,7 +28,8 @@ fn decides<Q, E: Entry<Q>>(count: u8, entry: &E, asked: &Q) -> bool
 
 // The class of the first entry that decides, or 0 where none does.
 pub fn first_match<Q, E: Entry<Q>>(count: u8, entries: &[E], asked: &Q) -> u8
-    ensures { λ r. ⌜ r ≡ first-class given (λ e. covering e (now (asked .entry))) count (now (entries .entry)) ⌝ }
+    ensures value { λ r. ⌜ r ≡ first-class given (λ e. covering e (now (asked .entry))) count (now (entries .entry)) ⌝ }
+    ensures meaning { λ r. ⌜ FirstApplies given (λ e. covering e (now (asked .entry))) count (now (entries .entry)) r ⌝ }
 {
     for entry in entries {
         if decides(count, entry, asked) {

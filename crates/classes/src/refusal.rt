@@ -1,6 +1,6 @@
 // The four classes of a usage, or which determinant gives none.
 ghost use mathlib.Core.Path.{_≡_};
-ghost use Rattle.classes.specs.Outcomes.{outcome, role-number, class-outcome, classes-outcome};
+ghost use Rattle.classes.specs.Outcomes.{outcome, numbered, role-number, class-outcome, classes-outcome};
 use crate::determinant::Determinant;
 use crate::usage::Usage;
 
@@ -35,6 +35,16 @@ impl Role {
             Role::Time => 2,
             Role::Location => 3,
             Role::User => 4,
+        }
+    }
+}
+
+impl Refusal {
+    pub fn number(self) -> u8
+        ensures { λ r. ⌜ r ≡ numbered self .0 ⌝ }
+    {
+        match self {
+            Refusal::NoClass(_) => 16,
         }
     }
 }

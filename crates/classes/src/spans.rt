@@ -3,7 +3,7 @@ ghost use mathlib.Core.Bool.{true};
 ghost use mathlib.Core.Path.{_≡_};
 ghost use Rattle.std.specs.Orderings.{Decides};
 ghost use Rattle.classes.specs.Entries.{by-entries};
-ghost use Rattle.classes.specs.Spans.{span-class, span-covers, follows, ordered, InOrder, NoKeyTwice};
+ghost use Rattle.classes.specs.Spans.{span-class, span-covers, span-follows, spans-ordered, InOrder, NoKeyTwice};
 use crate::determinant::Determinant;
 use crate::entries::Entry;
 use crate::entries::first_match;
@@ -38,7 +38,7 @@ pub impl<K: Key> Entry<K> for Span<K> as SpanEntry {
 impl<K: Key> Span<K> {
     // Whether the span runs forward, from after the high before it, if there is one.
     pub fn follows(&self, before: Option<K>) -> bool
-        ensures { λ r. ⌜ r ≡ follows (K·Key .upto) before (now (self .entry)) ⌝ }
+        ensures { λ r. ⌜ r ≡ span-follows (K·Key .upto) before (now (self .entry)) ⌝ }
     {
         let after = match before {
             None => true,
@@ -73,7 +73,7 @@ pub impl<K: UsageKey> Determinant for Spans<'_, K> as SpansDeterminant {
 
 // Whether no low is after its high, and each later low is after the high before it.
 pub fn in_order<K: Key>(spans: &[Span<K>]) -> bool
-    ensures value { λ r. ⌜ r ≡ ordered (K·Key .upto) (now (spans .entry)) ⌝ }
+    ensures value { λ r. ⌜ r ≡ spans-ordered (K·Key .upto) (now (spans .entry)) ⌝ }
     ensures exact { λ r. ⌜ Decides r (InOrder (K·Key .upto) (now (spans .entry))) ⌝ }
     ensures apart { λ r. ⌜ (r ≡ true → NoKeyTwice (K·Key .upto) (now (spans .entry))) ⌝ }
 {

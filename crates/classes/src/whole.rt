@@ -1,5 +1,5 @@
 // One class for everything.
-ghost use Rattle.classes.specs.Determinants.{whole};
+ghost use Rattle.classes.specs.Determinants.{whole-meaning};
 use crate::determinant::Determinant;
 use crate::usage::Usage;
 
@@ -7,7 +7,7 @@ use crate::usage::Usage;
 pub struct Whole;
 
 pub impl Determinant for Whole as WholeDeterminant {
-    ghost meaning = { λ _. whole };
+    ghost meaning = { λ _. whole-meaning };
 
     fn count(&self) -> u8 {
         1

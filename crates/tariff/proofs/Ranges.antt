@@ -14,11 +14,11 @@ use Rattle.tariff.specs.declared.codes.Measure.the-variants.{Metres, Minutes, 
 use Rattle.tariff.specs.declared.codes.Rounding.{Rounding}
 use Rattle.tariff.specs.declared.codes.Rounding.the-variants.{Up, Down, Nearest}
 use Rattle.tariff.specs.declared.terms.Terms.{Terms}
-use Rattle.tariff.specs.Codes.{coded, measure-code, measure-coded, rounding-code, rounding-coded}
+use Rattle.tariff.specs.Codes.{choice-of, measure-code, measure-coded, rounding-code, rounding-coded}
 use Rattle.tariff.specs.Ranges.{checked, tariff-with, numbers-of, sums-in-range, InRange, SumsInRange}
 
 -- a code that is read is the code of what it reads, and is 1, 2 or 3
-pub coded-back : {A : Type 0} (code : A → ℕ) (a b c : A) → code a ≡ 1 → code b ≡ 2 → code c ≡ 3 → (n : ℕ) (x : A) → Some x ≡ coded a b c n → (code x ≡ n) × (1 ≤ n) × (n ≤ 3)
+pub coded-back : {A : Type 0} (code : A → ℕ) (a b c : A) → code a ≡ 1 → code b ≡ 2 → code c ≡ 3 → (n : ℕ) (x : A) → Some x ≡ choice-of a b c n → (code x ≡ n) × (1 ≤ n) × (n ≤ 3)
 coded-back code a b c p q r n x e = grind (arith, tells)
 
 pub sums-exact : (p : Terms) → sums-in-range p ≡ true → SumsInRange p

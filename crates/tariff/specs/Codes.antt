@@ -20,11 +20,11 @@ rounding-code Down = 2
 rounding-code Nearest = 3
 
 -- the first, second or third of three choices, by its code
-abbrev pub coded : {A : Type 0} → A → A → A → ℕ → Option A
-coded first second third n = cond (eqb n 1) (Some first) (cond (eqb n 2) (Some second) (cond (eqb n 3) (Some third) None))
+abbrev pub choice-of : {A : Type 0} → A → A → A → ℕ → Option A
+choice-of first second third n = cond (eqb n 1) (Some first) (cond (eqb n 2) (Some second) (cond (eqb n 3) (Some third) None))
 
 abbrev pub measure-coded : ℕ → Option Measure
-measure-coded n = coded Metres Minutes Events n
+measure-coded n = choice-of Metres Minutes Events n
 
 abbrev pub rounding-coded : ℕ → Option Rounding
-rounding-coded n = coded Up Down Nearest n
+rounding-coded n = choice-of Up Down Nearest n

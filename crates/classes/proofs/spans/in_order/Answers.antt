@@ -2,8 +2,8 @@ use mathlib.Core.Path.{_≡_, refl, sym, ap, _∙_}
 use mathlib.Core.Bool.{true}
 use Rattle.std.proofs.shelf.Lists.{drop-all}
 use Rattle.std.proofs.shelf.Tests.{false≢true, true≢false}
-use Rattle.classes.specs.Spans.{ordered, ordered-from}
-use Rattle.classes.proofs.SpanOrder.{ordered-stops, ordered-next, in-order, ordered-from-facts, no-key-twice}
+use Rattle.classes.specs.Spans.{spans-ordered, spans-ordered-from}
+use Rattle.classes.proofs.SpanOrder.{ordered-stops, ordered-next, in-order, spans-ordered-back, no-key-twice}
 use Rattle.classes.proofs.spans.in_order.Needs as need
 
 pub returns-then-not-follows : need.returns-then-not-follows
@@ -13,7 +13,7 @@ returns-then-not-follows g c =
     let refused = sym (c .loop-span .inv ∙ stops) in
     record {
       value = refused;
-      exact = ((λ e. absurd (false≢true e)), (λ facts. refused ∙ ordered-from-facts upto (c .args .spans .now) facts));
+      exact = ((λ e. absurd (false≢true e)), (λ facts. refused ∙ spans-ordered-back upto (c .args .spans .now) facts));
       apart = λ e. absurd (false≢true e);
     }
 
@@ -26,7 +26,7 @@ pub returns : need.returns
 returns g c =
     let upto = g .K·Key .upto in
     let laws = g .K·Key·met in
-    let passed = c .loop-span .inv ∙ ap (ordered-from upto (c .loop-span .before)) (drop-all _ _ (c .loop-span-test .left)) in
+    let passed = c .loop-span .inv ∙ ap (spans-ordered-from upto (c .loop-span .before)) (drop-all _ _ (c .loop-span-test .left)) in
     let facts = in-order upto (c .args .spans .now) passed in
     record {
       value = sym passed;
