@@ -1,8 +1,11 @@
 // The four classes of a usage, or which determinant gives none.
 ghost use mathlib.Core.Path.{_≡_};
+ghost use Rattle.std.specs.declared.option.Option.the-variants.{Some};
+ghost use Rattle.classes.specs.Text.{classes-text, refusal-text};
 ghost use Rattle.classes.specs.Outcomes.{outcome, numbered, role-number, class-outcome, classes-outcome};
 use crate::determinant::Determinant;
 use crate::usage::Usage;
+use std::fmt;
 
 // The place of a determinant among the four.
 #[derive(Clone, Copy, PartialEq, Eq, Debug)]
@@ -45,6 +48,36 @@ impl Refusal {
     {
         match self {
             Refusal::NoClass(_) => 16,
+        }
+    }
+}
+
+// "2 1 1 2"
+pub impl fmt::Display for Classes as ClassesDisplay {
+    ghost shown = { λ c. Some (classes-text c) };
+
+    fn fmt<W: fmt::Write>(&self, f: &mut fmt::Formatter<W>) -> fmt::Result {
+        let Classes {
+            vehicle,
+            time,
+            location,
+            user,
+        } = *self;
+        write!(f, "{vehicle} {time} {location} {user}")
+    }
+}
+
+// "16 by 2"
+pub impl fmt::Display for Refusal as RefusalDisplay {
+    ghost shown = { λ e. Some (refusal-text (numbered e)) };
+
+    fn fmt<W: fmt::Write>(&self, f: &mut fmt::Formatter<W>) -> fmt::Result {
+        let number = self.number();
+        match self {
+            Refusal::NoClass(role) => {
+                let by = role.number();
+                write!(f, "{number} by {by}")
+            }
         }
     }
 }

@@ -1,9 +1,12 @@
 // What a tariff charges for what was driven.
 ghost use mathlib.Core.Path.{_≡_};
 ghost use Prim.Native.Nat.{_≤_};
+ghost use Rattle.std.specs.declared.option.Option.the-variants.{Some};
+ghost use Rattle.tariff.specs.Text.{charge-text};
 ghost use Rattle.tariff.specs.Fees.{amount-of, base-of, fee-of, vat-of, charge-of};
 use crate::codes::Measure;
 use crate::terms::Tariff;
+use std::fmt;
 
 // What was driven, in each measure.
 #[derive(Clone, Copy, PartialEq, Eq, Debug)]
@@ -18,6 +21,16 @@ pub struct Amounts {
 pub struct Charge {
     pub fee: u32,
     pub vat: u64,
+}
+
+// "fee 506 vat 96"
+pub impl fmt::Display for Charge as ChargeDisplay {
+    ghost shown = { λ c. Some (charge-text c) };
+
+    fn fmt<W: fmt::Write>(&self, f: &mut fmt::Formatter<W>) -> fmt::Result {
+        let Charge { fee, vat } = *self;
+        write!(f, "fee {fee} vat {vat}")
+    }
 }
 
 impl Measure {

@@ -5,6 +5,7 @@ mod terms;
 
 pub use charge::Amounts;
 pub use charge::Charge;
+pub use charge::ChargeDisplay;
 pub use codes::Measure;
 pub use codes::Rounding;
 pub use terms::Tariff;
