@@ -8,7 +8,7 @@ use crate::usage::Usage;
 use std::fmt;
 
 // The place of a determinant among the four.
-#[derive(Clone, Copy, PartialEq, Eq, Debug)]
+#[derive(Clone, Copy)]
 pub enum Role {
     Vehicle,
     Time,
@@ -16,12 +16,12 @@ pub enum Role {
     User,
 }
 
-#[derive(Clone, Copy, PartialEq, Eq, Debug)]
+#[derive(Clone, Copy)]
 pub enum Refusal {
     NoClass(Role),
 }
 
-#[derive(Clone, Copy, PartialEq, Eq, Debug)]
+#[derive(Clone, Copy)]
 pub struct Classes {
     pub vehicle: u8,
     pub time: u8,

@@ -9,7 +9,7 @@ use crate::terms::Tariff;
 use std::fmt;
 
 // What was driven, in each measure.
-#[derive(Clone, Copy, PartialEq, Eq, Debug)]
+#[derive(Clone, Copy)]
 pub struct Amounts {
     pub metres: u32,
     pub minutes: u32,
@@ -17,7 +17,7 @@ pub struct Amounts {
 }
 
 // A fee and the VAT on it, in minor currency units.
-#[derive(Clone, Copy, PartialEq, Eq, Debug)]
+#[derive(Clone, Copy)]
 pub struct Charge {
     pub fee: u32,
     pub vat: u64,

@@ -4,14 +4,14 @@ ghost use Prim.Native.Nat.{_<_};
 ghost use Rattle.tariff.specs.Codes.{measure-code, measure-coded, rounding-code, rounding-coded};
 ghost use Rattle.tariff.specs.Quotients.{rounded, raises, Rounded};
 
-#[derive(Clone, Copy, PartialEq, Eq, Debug)]
+#[derive(Clone, Copy)]
 pub enum Measure {
     Metres,
     Minutes,
     Events,
 }
 
-#[derive(Clone, Copy, PartialEq, Eq, Debug)]
+#[derive(Clone, Copy)]
 pub enum Rounding {
     Up,
     Down,

@@ -3,14 +3,10 @@ ghost use mathlib.Core.Path.{_≡_};
 ghost use Rattle.std.specs.Options.{Cases as BySome};
 ghost use Rattle.tariff.specs.Ranges.{checked, numbers-of, sums-in-range, InRange};
 use crate::codes::Measure;
-use crate::codes::MeasureDebug;
-use crate::codes::MeasurePartialEq;
 use crate::codes::Rounding;
-use crate::codes::RoundingDebug;
-use crate::codes::RoundingPartialEq;
 
 // The numbers of a tariff as anyone may hand them in.
-#[derive(Clone, Copy, PartialEq, Eq, Debug)]
+#[derive(Clone, Copy)]
 pub struct Terms {
     pub measure: u8,
     pub unit: u32,
@@ -25,7 +21,7 @@ pub struct Terms {
 }
 
 // A tariff: rate, threshold, offset, minimum and cap in minor currency units, vat in hundredths of a percent.
-#[derive(Clone, Copy, PartialEq, Eq, Debug)]
+#[derive(Clone, Copy)]
 pub struct Tariff {
     pub measure: Measure,
     pub unit: u32,
