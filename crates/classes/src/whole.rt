@@ -6,14 +6,20 @@ use crate::usage::Usage;
 #[derive(Clone, Copy)]
 pub struct Whole;
 
+impl Whole {
+    pub const COUNT: u8 = 1;
+
+    pub const CLASS: u8 = 1;
+}
+
 pub impl Determinant for Whole as WholeDeterminant {
     ghost meaning = { λ _. whole-meaning };
 
     fn count(&self) -> u8 {
-        1
+        Self::COUNT
     }
 
     fn class(&self, _usage: &Usage) -> u8 {
-        1
+        Self::CLASS
     }
 }

@@ -74,8 +74,8 @@ impl Tariff {
     pub fn vat(&self, fee: u32) -> u64
         ensures { λ r. ⌜ r ≡ vat-of (now (self .entry)) fee ⌝ }
     {
-        self.vat_rounding
-            .divide(u64::from(fee) * u64::from(self.vat), Self::VAT_WHOLE)
+        let product = u64::from(fee) * u64::from(self.vat);
+        self.vat_rounding.divide(product, Self::VAT_WHOLE)
     }
 
     // Fee and VAT for what was driven.
