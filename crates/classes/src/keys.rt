@@ -2,7 +2,7 @@
 ghost use mathlib.Core.Bool.{Bool, true, false};
 ghost use mathlib.Core.Path.{_≡_};
 ghost use Rattle.classes.specs.declared.usage.Usage.{Usage};
-ghost use Rattle.classes.specs.Keys.{object-upto, object-key, contract-upto, contract-key};
+ghost use Rattle.classes.specs.Keys.{object-upto, object-key, byte-before, contract-upto, contract-key};
 use crate::usage::Usage;
 
 pub trait Key: Copy {
@@ -63,16 +63,26 @@ pub impl UsageKey for ObjectKey as ObjectKeyOfUsage {
 // A contract, compared byte by byte from the first.
 #[derive(Clone, Copy)]
 pub struct ContractKey {
-    pub text: [u8; 8],
+    pub text: [u8; Usage::CONTRACT_BYTES],
+}
+
+// Whether a byte comes before another, where they differ.
+fn byte_before(a: u8, b: u8) -> Option<bool>
+    ensures { λ r. ⌜ r ≡ byte-before a b ⌝ }
+{
+    if a == b {
+        return None;
+    }
+    Some(a < b)
 }
 
 pub impl Key for ContractKey as ContractKeyKey {
     ghost upto = { contract-upto };
 
     fn not_after(&self, other: &ContractKey) -> bool {
-        for i in 0..8 {
-            if self.text[i] != other.text[i] {
-                return self.text[i] < other.text[i];
+        for i in 0..Usage::CONTRACT_BYTES {
+            if let Some(before) = byte_before(self.text[i], other.text[i]) {
+                return before;
             }
         }
         true

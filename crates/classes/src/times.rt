@@ -22,7 +22,7 @@ impl Period {
     fn runs_on(&self, instant: &Instant) -> bool
         ensures { λ r. ⌜ r ≡ has-bit (now (self .entry) .days) (weekday-of (now (instant .entry))) ⌝ }
     {
-        (self.days >> instant.weekday()) & 1 == 1
+        (self.days >> instant.weekday()) % 2 == 1
     }
 }
 

@@ -41,7 +41,7 @@ impl Instant {
 pub struct Usage {
     pub partition: u8,
     pub object: u32,
-    pub contract: [u8; 8],
+    pub contract: [u8; Usage::CONTRACT_BYTES],
     pub instant: Instant,
     pub axles: u8,
     pub mass: u16,
@@ -49,4 +49,8 @@ pub struct Usage {
     pub metres: u32,
     pub minutes: u32,
     pub events: u32,
+}
+
+impl Usage {
+    pub const CONTRACT_BYTES: usize = 8;
 }

@@ -3,7 +3,7 @@ use mathlib.Core.Path.{_≡_, refl, sym, ap, subst, _∙_}
 use mathlib.Core.Bool.{true, false}
 use mathlib.Core.Logic.{_⊎_, inl, inr, ⊎-elim}
 use Prim.Native.Nat.{ℕ, _+_, _-_, _*_, _/_, _%_, _≤_, _<_}
-use native.Mathlib.Nat.{add-mul, mul-add, mul-comm, mul-assoc, one-mul, mul-one, div-zero}
+use native.Mathlib.Nat.{add-mul, mul-comm, mul-assoc, one-mul, mul-one, div-zero}
 use native.Mathlib.Omega.{arith}
 use Rattle.std.proofs.shelf.Bits.{div-add-mod', div-mul-add, mod-below, mul-le}
 use Rattle.std.proofs.shelf.Tests.{cases-eq, cases-lt, cases-order, false≢true, ltb-true, ltb-false, leb-true, leb-false}

@@ -1,6 +1,5 @@
 // What a tariff charges for what was driven.
 ghost use mathlib.Core.Path.{_≡_};
-ghost use Prim.Native.Nat.{_≤_};
 ghost use Rattle.std.specs.declared.option.Option.the-variants.{Some};
 ghost use Rattle.tariff.specs.Text.{charge-text};
 ghost use Rattle.tariff.specs.Fees.{amount-of, base-of, fee-of, vat-of, charge-of};

@@ -1,22 +1,21 @@
 use mathlib.Core.Path.{_≡_, sym, _∙_}
 use Prim.Native.Nat.{_≤_, _<_}
-use native.Mathlib.Omega.{arith}
 use lib.ListN.{length}
 use borrow.Author.Needs.{needs}
 use Rattle.classes.proofs.Orders.{bytes-differ, bytes-agree, bytes-end}
 use Rattle.classes.proofs.keys.ContractKeyKey.not_after.Needs as need
 
-pub returns-then-self-i : need.returns-then-self-i
-returns-then-self-i c =
+pub returns-in-Some : need.returns-in-Some
+returns-in-Some c =
     let in-self : c .loop-i .i < length (c .args .self .now .text) = search needs in
     let in-other : c .loop-i .i < length (c .args .other .now .text) = search needs in
-    bytes-differ _ _ (c .loop-i .i) in-self in-other (c .if-self-i .taken) ∙ sym (c .loop-i .inv)
+    bytes-differ _ _ (c .loop-i .i) in-self in-other (c .in-Some .before) (c .in-Some .ensures tt) ∙ sym (c .loop-i .inv)
 
 pub loop-i-again : need.loop-i-again
 loop-i-again c =
     let in-self : c .loop-i .i < length (c .args .self .now .text) = search needs in
     let in-other : c .loop-i .i < length (c .args .other .now .text) = search needs in
-    c .loop-i .inv ∙ bytes-agree _ _ (c .loop-i .i) in-self in-other (c .if-self-i .left)
+    c .loop-i .inv ∙ bytes-agree _ _ (c .loop-i .i) in-self in-other (c .in-rest .ensures tt)
 
 pub returns : need.returns
 returns c =
