@@ -8,8 +8,6 @@ pub struct Whole;
 
 impl Whole {
     pub const COUNT: u8 = 1;
-
-    pub const CLASS: u8 = 1;
 }
 
 pub impl Determinant for Whole as WholeDeterminant {
@@ -20,6 +18,6 @@ pub impl Determinant for Whole as WholeDeterminant {
     }
 
     fn class(&self, _usage: &Usage) -> u8 {
-        Self::CLASS
+        self.count()
     }
 }
