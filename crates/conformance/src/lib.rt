@@ -1,8 +1,6 @@
 // The libraries as their users meet them: a determinant of one's own, and the edges of the rules as tests.
 mod axles;
-#[cfg(test)]
 mod classing;
-#[cfg(test)]
 mod fees;
 
 pub use axles::ByAxles;
