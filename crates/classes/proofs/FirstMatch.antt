@@ -1,28 +1,25 @@
 -- One entry of a list after another.
-use mathlib.Core.Path.{_≡_, refl, sym, ap, _∙_}
-use mathlib.Core.Bool.{Bool, true, false, cond, _&&_}
+use mathlib.Core.Path.{_≡_, refl, sym}
+use mathlib.Core.Bool.{Bool, true, false, _&&_}
 use mathlib.Core.List.{List, [], _∷_}
 use mathlib.Core.Logic.{⊎-elim}
-use Prim.Native.Nat.{ℕ, zero, suc, _+_, _≤_, _<_}
+use Prim.Native.Nat.{ℕ, zero, suc, _+_, _<_}
 use native.Mathlib.Omega.{arith}
 use lib.Dec.{leb}
 use lib.ListN.{length, drop, getD}
-use Rattle.std.proofs.shelf.Lists.{drop-more}
 use Rattle.std.proofs.shelf.Tests.{both-ways, and-parts, and-from, cases-bool, leb-true, le-leb}
 use Rattle.classes.specs.Entries.{usable, first-class, Applies, FirstApplies}
+use Rattle.classes.proofs.Steps.{drop-read}
 
 module _ {E : Type 0} (given : E → ℕ) (covers : E → Bool) (count : ℕ) where
   module _ (es : List E) (i : ℕ) (e : E) (within : i < length es) (read : e ≡ getD es i e) where
-    rest : drop i es ≡ e ∷ drop (i + 1) es
-    rest = drop-more es i e within ∙ ap (λ x. x ∷ drop (i + 1) es) (sym read)
-
     -- the entry at i decides
     pub first-class-here : true ≡ (usable count (given e) && covers e) → given e ≡ first-class given covers count (drop i es)
-    first-class-here h = rw rest (rw (sym h) refl)
+    first-class-here h = rw (drop-read es i e within read) (rw (sym h) refl)
 
     -- the entry at i is passed over
     pub first-class-next : false ≡ (usable count (given e) && covers e) → first-class given covers count (drop i es) ≡ first-class given covers count (drop (i + 1) es)
-    first-class-next h = rw rest (rw (sym h) refl)
+    first-class-next h = rw (drop-read es i e within read) (rw (sym h) refl)
 
   applies : (e : E) → (usable count (given e) && covers e) ≡ true → Applies given covers count e
   applies e h =

@@ -1,3 +1,4 @@
 pub mod FirstMatch
 pub mod Orders
 pub mod SpanOrder
+pub mod Steps

@@ -1,10 +1,9 @@
 -- The order of byte strings: the first byte that differs decides.
-use mathlib.Core.Path.{_≡_, refl, sym, ap, _∙_}
-use mathlib.Core.Bool.{Bool, true, false, cond}
+use mathlib.Core.Path.{_≡_, refl, sym, _∙_}
+use mathlib.Core.Bool.{Bool, true, false}
 use mathlib.Core.List.{List, [], _∷_}
 use Prim.Native.Nat.{ℕ, _+_, _≤_, _<_}
 use native.Mathlib.Omega.{arith}
-use lib.Dec.{eqb, ltb}
 use lib.ListN.{length, drop, getD}
 use Rattle.std.proofs.shelf.Lists.{drop-all, drop-more}
 use Rattle.std.proofs.shelf.Tests.{true≢false, false≢true}

@@ -1,30 +1,27 @@
 -- Spans in order: the test and the facts are the same, and the facts keep every key out of all spans but one.
-use mathlib.Core.Path.{_≡_, refl, sym, ap, _∙_}
-use mathlib.Core.Bool.{Bool, true, false, _&&_, not}
+use mathlib.Core.Path.{_≡_, refl, sym}
+use mathlib.Core.Bool.{Bool, true, false}
 use mathlib.Core.List.{List, [], _∷_}
 use mathlib.Core.Logic.{⊎-elim}
-use Prim.Native.Nat.{ℕ, zero, suc, _+_, _-_, _≤_, _<_}
+use Prim.Native.Nat.{ℕ, zero, suc, _+_, _-_, _<_}
 use native.Mathlib.Numerals.{add-one}
 use native.Mathlib.Omega.{arith}
 use lib.ListN.{length, drop, getD}
 use Rattle.std.specs.declared.option.Option.{Option}
 use Rattle.std.specs.declared.option.Option.the-variants.{Some, None}
-use Rattle.std.proofs.shelf.Lists.{drop-all, drop-more}
-use Rattle.std.proofs.shelf.Tests.{true≢false, both-ways, and-parts, and-from, not-true, not-from-false, cases-order, cases-bool}
+use Rattle.std.proofs.shelf.Tests.{both-ways, and-parts, and-from, not-true, not-from-false, cases-order, cases-bool}
 use Rattle.classes.specs.declared.spans.Span.{Span}
 use Rattle.classes.specs.Spans.{span-covers, after-high, span-follows, spans-ordered, spans-ordered-from, InOrder, NoKeyTwice}
+use Rattle.classes.proofs.Steps.{drop-read}
 
 module _ {K : Type 0} (upto : K → K → Bool) where
   -- a loop over the spans, at index i
   module _ (ss : List (Span K)) (i : ℕ) (s : Span K) (before : Option K) (within : i < length ss) (read : s ≡ getD ss i s) where
-    rest : drop i ss ≡ s ∷ drop (i + 1) ss
-    rest = drop-more ss i s within ∙ ap (λ x. x ∷ drop (i + 1) ss) (sym read)
-
     pub ordered-stops : false ≡ span-follows upto before s → spans-ordered-from upto before (drop i ss) ≡ false
-    ordered-stops h = rw rest (rw (sym h) refl)
+    ordered-stops h = rw (drop-read ss i s within read) (rw (sym h) refl)
 
     pub ordered-next : true ≡ span-follows upto before s → spans-ordered-from upto before (drop i ss) ≡ spans-ordered-from upto (Some (s .high)) (drop (i + 1) ss)
-    ordered-next h = rw rest (rw (sym h) refl)
+    ordered-next h = rw (drop-read ss i s within read) (rw (sym h) refl)
 
   -- from the test to the facts
   parts : (before : Option K) (s : Span K) (ss : List (Span K)) → spans-ordered-from upto before (s ∷ ss) ≡ true → (after-high upto before (s .low) ≡ true) × (upto (s .low) (s .high) ≡ true) × (spans-ordered-from upto (Some (s .high)) ss ≡ true)

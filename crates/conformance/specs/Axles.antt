@@ -1,7 +1,6 @@
 -- Class 1 for two axles, 2 for three, 3 for four and more, and none below two.
-use Prim.Native.Nat.{ℕ, _-_, min}
+use Prim.Native.Nat.{_-_, min}
 use native.Mathlib.Omega.{arith}
-use Rattle.classes.specs.declared.usage.Usage.{Usage}
 use Rattle.classes.specs.Determinants.{Meaning}
 
 abbrev pub by-axles : Meaning

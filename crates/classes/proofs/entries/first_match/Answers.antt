@@ -1,4 +1,4 @@
-use mathlib.Core.Path.{_≡_, sym, ap, _∙_}
+use mathlib.Core.Path.{sym, ap, _∙_}
 use Rattle.std.proofs.shelf.Lists.{drop-all}
 use Rattle.classes.specs.Entries.{first-class}
 use Rattle.classes.proofs.FirstMatch.{first-class-here, first-class-next, first-applies-at}

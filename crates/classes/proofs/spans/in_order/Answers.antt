@@ -1,8 +1,8 @@
-use mathlib.Core.Path.{_≡_, refl, sym, ap, _∙_}
+use mathlib.Core.Path.{refl, sym, ap, _∙_}
 use mathlib.Core.Bool.{true}
 use Rattle.std.proofs.shelf.Lists.{drop-all}
-use Rattle.std.proofs.shelf.Tests.{false≢true, true≢false}
-use Rattle.classes.specs.Spans.{spans-ordered, spans-ordered-from}
+use Rattle.std.proofs.shelf.Tests.{false≢true}
+use Rattle.classes.specs.Spans.{spans-ordered-from}
 use Rattle.classes.proofs.SpanOrder.{ordered-stops, ordered-next, in-order, spans-ordered-back, no-key-twice}
 use Rattle.classes.proofs.spans.in_order.Needs as need
 

@@ -1,6 +1,4 @@
-use mathlib.Core.Path.{_≡_, sym, ap, _∙_}
-use Rattle.std.proofs.shelf.Lists.{drop-all}
-use Rattle.quotes.specs.Quotes.{tariff-for}
+use mathlib.Core.Path.{sym, _∙_}
 use Rattle.quotes.proofs.Rates.{rate-here, rate-next, rate-none}
 use Rattle.quotes.proofs.prices.PriceList.tariff_for.Needs as need
 

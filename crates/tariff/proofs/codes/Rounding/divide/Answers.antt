@@ -1,7 +1,6 @@
-use mathlib.Core.Path.{_≡_, sym}
-use Prim.Native.Nat.{ℕ, _<_, _+_, _/_}
+use mathlib.Core.Path.{sym}
+use Prim.Native.Nat.{_<_}
 use native.Mathlib.Omega.{arith}
-use Rattle.tariff.specs.Quotients.{rounded}
 use Rattle.tariff.proofs.Quotients.{by-zero, by-remainder, means}
 use Rattle.tariff.proofs.codes.Rounding.divide.Needs as need
 

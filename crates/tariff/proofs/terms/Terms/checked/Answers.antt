@@ -1,5 +1,4 @@
 use mathlib.Core.Path.{sym}
-use borrow.Author.Needs.{needs}
 use Rattle.tariff.proofs.Ranges.{made-value, made-in-range, made-back}
 use Rattle.tariff.proofs.terms.Terms.checked.Needs as need
 
