@@ -1,0 +1,8 @@
+// Lines of a tariff book: the classes that a line covers, the table of all line numbers, and what no line claims.
+mod sets;
+mod states;
+
+pub use sets::ClassSet;
+pub use sets::Counts;
+pub use states::Line;
+pub use states::LineState;
