@@ -1,3 +1,5 @@
 pub mod Bits
 pub mod Overlaps
 pub mod Numbers
+pub mod Narrowing
+pub mod Search

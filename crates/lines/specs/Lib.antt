@@ -1,3 +1,4 @@
+pub mod Gaps
 pub mod Lines
 pub mod Sets
 pub mod Tables

@@ -1,0 +1,111 @@
+// The search for a combination of classes that no live line claims.
+ghost use mathlib.Core.List.{map};
+ghost use mathlib.Core.Path.{_≡_};
+ghost use Rattle.std.specs.Options.{Cases as BySome};
+ghost use Rattle.lines.specs.Gaps.{kept, users-of, users-with, set-of, first-gap, NoGap, FirstGap};
+use crate::sets::ClassSet;
+use crate::sets::Counts;
+use crate::states::Line;
+use crate::states::LineState;
+use crate::table::LineTable;
+use classes::Classes;
+use classes::Role;
+
+impl Line {
+    // The line's set for a determinant.
+    pub fn set(&self, role: Role) -> ClassSet
+        ensures { λ r. ⌜ r ≡ set-of role (now (self .entry)) ⌝ }
+    {
+        match role {
+            Role::Vehicle => self.vehicles,
+            Role::Time => self.times,
+            Role::Location => self.locations,
+            Role::User => self.users,
+        }
+    }
+}
+
+impl LineState {
+    // The state if it is a live line that has the class, else free.
+    fn kept(self, role: Role, class: u8) -> LineState
+        ensures { λ r. ⌜ r ≡ kept role class self ⌝ }
+    {
+        match self {
+            LineState::Live(line) if line.set(role).has(class) => self,
+            _ => LineState::Free,
+        }
+    }
+
+    // The users of a live line that has the location class.
+    fn users(&self, location: u8) -> ClassSet
+        ensures { λ r. ⌜ r ≡ users-of location (now (self .entry)) ⌝ }
+    {
+        match self {
+            LineState::Live(line) if line.locations.has(location) => line.users,
+            _ => ClassSet::EMPTY,
+        }
+    }
+}
+
+// Leaves the live lines that have the class, and frees every other number.
+fn keep(states: &mut [LineState], role: Role, class: u8)
+    ensures { λ _. ⌜ now (states .exit) ≡ map (kept role class) (now (states .entry)) ⌝ }
+{
+    for state in states.iter_mut() {
+        *state = state.kept(role, class);
+    }
+}
+
+// The users of all live lines that have the location class.
+fn users_at(states: &[LineState], location: u8) -> ClassSet
+    ensures { λ r. ⌜ r ≡ users-with location (record { 0 = 0 }) (now (states .entry)) ⌝ }
+{
+    let mut users = ClassSet::EMPTY;
+    for state in states {
+        users = users.union(state.users(location));
+    }
+    users
+}
+
+impl LineTable {
+    // The table with the live lines that have the class, and every other number free.
+    fn narrowed(&self, role: Role, class: u8) -> LineTable
+        ensures { λ r. ⌜ r .states ≡ map (kept role class) (now (self .entry) .states) ⌝ }
+    {
+        let mut table = *self;
+        keep(&mut table.states, role, class);
+        table
+    }
+
+    // The first combination that no live line claims, counting the user class fastest and the vehicle class slowest.
+    pub fn first_gap(&self, counts: &Counts) -> Option<Classes>
+        ensures value { λ r. ⌜ r ≡ first-gap (now (counts .entry)) (now (self .entry) .states) ⌝ }
+    {
+        let mut gap = None;
+        'search: for vehicles_passed in 0..counts.vehicles {
+            let vehicle = vehicles_passed + 1;
+            let of_vehicle = self.narrowed(Role::Vehicle, vehicle);
+            for times_passed in 0..counts.times {
+                let time = times_passed + 1;
+                let of_time = of_vehicle.narrowed(Role::Time, time);
+                for locations_passed in 0..counts.locations {
+                    let location = locations_passed + 1;
+                    let users = users_at(&of_time.states, location);
+                    for users_passed in 0..counts.users {
+                        let user = users_passed + 1;
+                        if !users.has(user) {
+                            gap = Some(Classes {
+                                vehicle,
+                                time,
+                                location,
+                                user,
+                            });
+                            break 'search;
+                        }
+                    }
+                }
+            }
+        }
+        gap
+    }
+}
