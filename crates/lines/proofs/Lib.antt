@@ -3,3 +3,4 @@ pub mod Overlaps
 pub mod Numbers
 pub mod Narrowing
 pub mod Search
+pub mod GapMeaning

@@ -80,6 +80,14 @@ impl LineTable {
     // The first combination that no live line claims, counting the user class fastest and the vehicle class slowest.
     pub fn first_gap(&self, counts: &Counts) -> Option<Classes>
         ensures value { λ r. ⌜ r ≡ first-gap (now (counts .entry)) (now (self .entry) .states) ⌝ }
+        ensures meaning { λ r. ⌜ BySome r (NoGap (now (counts .entry)) (now (self .entry) .states)) (FirstGap (now (counts .entry)) (now (self .entry) .states)) ⌝ }
+    {
+        self.search_gap(counts)
+    }
+
+    // At each level only the lines that still match are looked at, so that the innermost work is the test of a bit.
+    fn search_gap(&self, counts: &Counts) -> Option<Classes>
+        ensures { λ r. ⌜ r ≡ first-gap (now (counts .entry)) (now (self .entry) .states) ⌝ }
     {
         let mut gap = None;
         'search: for vehicles_passed in 0..counts.vehicles {

@@ -3,7 +3,7 @@ use Prim.Native.Nat.{_+_}
 use Rattle.std.specs.declared.option.Option.the-variants.{None}
 use Rattle.lines.specs.Gaps.{first-gap}
 use Rattle.lines.proofs.Search.{from-vehicle, from-time, from-location, from-user}
-use Rattle.lines.proofs.table.LineTable.first_gap.Given as given
+use Rattle.lines.proofs.table.LineTable.search_gap.Given as given
 
 -- nothing is found so far, so what remains to be searched decides
 abbrev pub Inv-search : given.InvT-search
