@@ -26,9 +26,13 @@ role-number User = 4
 abbrev pub numbered : Refusal → ℕ × List ℕ
 numbered (NoClass role) = (16, role-number role ∷ [])
 
+-- what a result says, by the numbers of its refusals
+abbrev pub outcome-by : {A E : Type 0} → (E → ℕ × List ℕ) → Result A E → Outcome A
+outcome-by numbers (Ok x) = accepted x
+outcome-by numbers (Err e) = refusal (numbers e)
+
 abbrev pub outcome : {A : Type 0} → Result A Refusal → Outcome A
-outcome (Ok x) = accepted x
-outcome (Err e) = refusal (numbered e)
+outcome r = outcome-by numbered r
 
 -- one class, from the determinant with this number: 0 is no class
 abbrev pub class-outcome : ℕ → ℕ → Outcome ℕ

@@ -1,0 +1,3 @@
+pub mod Calls
+pub mod Contents
+pub mod Refusals
