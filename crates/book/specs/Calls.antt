@@ -22,6 +22,7 @@ use Rattle.lines.specs.Tables.{first-overlap}
 use Rattle.lines.specs.Gaps.{first-gap}
 use Rattle.book.specs.declared.contents.Contents.{Contents}
 use Rattle.book.specs.declared.contents.Phase.the-variants.{Blank, Draft, Issued}
+use Rattle.book.specs.Refusals.{gap-values}
 use Rattle.book.specs.Contents.{in-phase, tariff-number, line-number, tariff-at, line-at, with-phase, with-version, with-counts, with-tariff, with-line}
 
 -- a refusal's number and values
@@ -65,9 +66,10 @@ overlap-with (Some n) = Some (11, n ∷ [])
 abbrev pub overlap-refusal : Contents → Line → Option Refused
 overlap-refusal b l = overlap-with (first-overlap (b .lines .states) l)
 
+-- the classes of an unclaimed combination
 abbrev pub gap-with : Option Classes → Option Refused
 gap-with None = None
-gap-with (Some k) = Some (12, k .vehicle ∷ k .time ∷ k .location ∷ k .user ∷ [])
+gap-with (Some k) = Some (12, gap-values k)
 
 -- open: four counts make a draft
 abbrev pub open-refusal : Contents → Counts → Option Refused

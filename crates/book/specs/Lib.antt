@@ -1,3 +1,6 @@
 pub mod Calls
 pub mod Contents
+pub mod Laws
+pub mod Prices
 pub mod Refusals
+pub mod Sound

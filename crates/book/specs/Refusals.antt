@@ -2,9 +2,14 @@
 use mathlib.Core.List.{List, [], _∷_}
 use Prim.Native.Nat.{ℕ}
 use Rattle.std.specs.declared.result.Result.{Result}
+use Rattle.classes.specs.declared.refusal.Classes.{Classes}
 use Rattle.classes.specs.Outcomes.{Outcome, outcome-by, role-number}
 use Rattle.book.specs.declared.refusal.Refusal.{Refusal}
 use Rattle.book.specs.declared.refusal.Refusal.the-variants.{WrongPhase, CountOutOfRange, NoSuchTariff, TermsOutOfRange, NoSuchLine, NumberTaken, NotLive, NotWithdrawn, TariffNeverPut, SetOutOfRange, Overlap, Gap, LastVersion, CountUnlike, AmountOutOfRange, NoClass}
+
+-- a combination by its classes, vehicle first
+abbrev pub gap-values : Classes → List ℕ
+gap-values k = k .vehicle ∷ k .time ∷ k .location ∷ k .user ∷ []
 
 abbrev pub numbered : Refusal → ℕ × List ℕ
 numbered WrongPhase = (1, [])
@@ -18,7 +23,7 @@ numbered NotWithdrawn = (8, [])
 numbered TariffNeverPut = (9, [])
 numbered SetOutOfRange = (10, [])
 numbered (Overlap line) = (11, line ∷ [])
-numbered (Gap k) = (12, k .vehicle ∷ k .time ∷ k .location ∷ k .user ∷ [])
+numbered (Gap k) = (12, gap-values k)
 numbered LastVersion = (13, [])
 numbered (CountUnlike role) = (14, role-number role ∷ [])
 numbered AmountOutOfRange = (15, [])

@@ -1,0 +1,9 @@
+// The book: contents that are sound.
+ghost use Rattle.book.specs.Sound.{Sound};
+use crate::contents::Contents;
+
+#[derive(Clone, Copy)]
+pub struct Book {
+    pub(crate) contents: Contents,
+    ghost sound: { ∥ Sound contents ∥₁ },
+}

@@ -1,0 +1,100 @@
+// What a usage costs: the tests before a price, and the price of the line that claims its classes.
+ghost use mathlib.Core.Path.{_≡_};
+ghost use Rattle.std.specs.declared.option.Option.the-variants.{None};
+ghost use Rattle.classes.specs.Outcomes.{numbered as class-numbered};
+ghost use Rattle.book.specs.Calls.{answered, unless};
+ghost use Rattle.book.specs.Prices.{amounts-of, amounts-in-range, meanings, classes-of, count-refusal, price-of};
+ghost use Rattle.book.specs.Refusals.{numbered, outcome};
+use crate::contents::Contents;
+use crate::refusal::Refusal;
+use classes::Classes;
+use classes::Determinant;
+use classes::Role;
+use classes::Usage;
+use lines::Counts;
+use lines::LineState;
+use tariff::Amounts;
+use tariff::Charge;
+
+// What a usage costs, by which line and which tariff.
+#[derive(Clone, Copy)]
+pub struct Price {
+    pub line: u16,
+    pub tariff: u8,
+    pub charge: Charge,
+}
+
+// The most metres, minutes or events that are priced.
+pub const HIGHEST_AMOUNT: u32 = 10_000_000;
+
+pub impl From<classes::Refusal> for Refusal as FromClasses {
+    ghost converts = { λ e r. numbered r ≡ class-numbered e };
+
+    fn from(refusal: classes::Refusal) -> Refusal {
+        match refusal {
+            classes::Refusal::NoClass(role) => Refusal::NoClass(role),
+        }
+    }
+}
+
+// What was driven, in each measure.
+pub fn amounts_of(usage: &Usage) -> Amounts
+    ensures { λ r. ⌜ r ≡ amounts-of (now (usage .entry)) ⌝ }
+{
+    Amounts {
+        metres: usage.metres,
+        minutes: usage.minutes,
+        events: usage.events,
+    }
+}
+
+pub(crate) fn amounts_in_range(usage: &Usage) -> bool
+    ensures { λ r. ⌜ r ≡ amounts-in-range (now (usage .entry)) ⌝ }
+{
+    usage.metres <= HIGHEST_AMOUNT
+        && usage.minutes <= HIGHEST_AMOUNT
+        && usage.events <= HIGHEST_AMOUNT
+}
+
+// Whether each determinant has the count that the book has.
+pub(crate) fn same_counts<V: Determinant, T: Determinant, L: Determinant, U: Determinant>(
+    counts: &Counts,
+    vehicle: &V,
+    time: &T,
+    location: &L,
+    user: &U,
+) -> Result<(), Refusal>
+    ensures { λ r. ⌜ outcome r ≡ answered (count-refusal (now (counts .entry)) (meanings (V·Determinant .meaning (now (vehicle .entry))) (T·Determinant .meaning (now (time .entry))) (L·Determinant .meaning (now (location .entry))) (U·Determinant .meaning (now (user .entry)))) None) tt ⌝ }
+{
+    if vehicle.count() != counts.vehicles {
+        return Err(Refusal::CountUnlike(Role::Vehicle));
+    }
+    if time.count() != counts.times {
+        return Err(Refusal::CountUnlike(Role::Time));
+    }
+    if location.count() != counts.locations {
+        return Err(Refusal::CountUnlike(Role::Location));
+    }
+    if user.count() != counts.users {
+        return Err(Refusal::CountUnlike(Role::User));
+    }
+    Ok(())
+}
+
+impl Contents {
+    // The price by the lowest live line that claims the classes, if there is one and its tariff was put.
+    pub(crate) fn price_of(&self, classes: &Classes, amounts: &Amounts) -> Option<Price>
+        ensures { λ r. ⌜ r ≡ price-of (now (self .entry)) (now (classes .entry)) (now (amounts .entry)) ⌝ }
+    {
+        let line = self.lines.first_claim(classes)?;
+        let LineState::Live(claimant) = self.line(line) else {
+            return None;
+        };
+        let tariff = self.tariff(claimant.tariff)?;
+        Some(Price {
+            line,
+            tariff: claimant.tariff,
+            charge: tariff.charge(amounts),
+        })
+    }
+}
