@@ -1,3 +1,4 @@
 pub mod Keeps
 pub mod Places
 pub mod Refusing
+pub mod OneLine

@@ -4,6 +4,7 @@ mod calls;
 mod contents;
 mod edits;
 mod prices;
+mod pricing;
 mod refusal;
 
 pub use book::Book;

@@ -1,9 +1,10 @@
 // What a usage costs: the tests before a price, and the price of the line that claims its classes.
+ghost use mathlib.Core.Bool.{cond};
+ghost use mathlib.Core.List.{[], _∷_};
 ghost use mathlib.Core.Path.{_≡_};
-ghost use Rattle.std.specs.declared.option.Option.the-variants.{None};
-ghost use Rattle.classes.specs.Outcomes.{numbered as class-numbered};
-ghost use Rattle.book.specs.Calls.{answered, unless};
-ghost use Rattle.book.specs.Prices.{amounts-of, amounts-in-range, meanings, classes-of, count-refusal, price-of};
+ghost use lib.Dec.{eqb};
+ghost use Rattle.classes.specs.Outcomes.{accepted, refusal, role-number, numbered as class-numbered};
+ghost use Rattle.book.specs.Prices.{amounts-of, amounts-in-range, price-of};
 ghost use Rattle.book.specs.Refusals.{numbered, outcome};
 use crate::contents::Contents;
 use crate::refusal::Refusal;
@@ -11,7 +12,6 @@ use classes::Classes;
 use classes::Determinant;
 use classes::Role;
 use classes::Usage;
-use lines::Counts;
 use lines::LineState;
 use tariff::Amounts;
 use tariff::Charge;
@@ -56,29 +56,19 @@ pub(crate) fn amounts_in_range(usage: &Usage) -> bool
         && usage.events <= HIGHEST_AMOUNT
 }
 
-// Whether each determinant has the count that the book has.
-pub(crate) fn same_counts<V: Determinant, T: Determinant, L: Determinant, U: Determinant>(
-    counts: &Counts,
-    vehicle: &V,
-    time: &T,
-    location: &L,
-    user: &U,
+// Whether a determinant has the count that the book has.
+pub(crate) fn same_count<D: Determinant>(
+    role: Role,
+    determinant: &D,
+    count: u8,
 ) -> Result<(), Refusal>
-    ensures { λ r. ⌜ outcome r ≡ answered (count-refusal (now (counts .entry)) (meanings (V·Determinant .meaning (now (vehicle .entry))) (T·Determinant .meaning (now (time .entry))) (L·Determinant .meaning (now (location .entry))) (U·Determinant .meaning (now (user .entry)))) None) tt ⌝ }
+    ensures { λ r. ⌜ outcome r ≡ cond (eqb (meaning (now (determinant .entry)) .count) count) (accepted tt) (refusal (14, role-number role ∷ [])) ⌝ }
 {
-    if vehicle.count() != counts.vehicles {
-        return Err(Refusal::CountUnlike(Role::Vehicle));
+    if determinant.count() == count {
+        Ok(())
+    } else {
+        Err(Refusal::CountUnlike(role))
     }
-    if time.count() != counts.times {
-        return Err(Refusal::CountUnlike(Role::Time));
-    }
-    if location.count() != counts.locations {
-        return Err(Refusal::CountUnlike(Role::Location));
-    }
-    if user.count() != counts.users {
-        return Err(Refusal::CountUnlike(Role::User));
-    }
-    Ok(())
 }
 
 impl Contents {

@@ -21,7 +21,7 @@ use Rattle.lines.specs.Tables.{state-at, Claimed}
 use Rattle.lines.specs.Gaps.{claimed, or-else, first-class-of, gap-at, gap-in-location, gap-in-time, gap-in-vehicle, first-gap, Before, NoGap, FirstGap}
 
 -- the test for a claim, and the claim
-live-line : (k : Classes) (s : LineState) → state-claims k s ≡ true → (l : Line) × (s ≡ Live l) × (claims l k ≡ true)
+pub live-line : (k : Classes) (s : LineState) → state-claims k s ≡ true → (l : Line) × (s ≡ Live l) × (claims l k ≡ true)
 live-line k Free h = absurd (false≢true h)
 live-line k (Live l) h = (l, refl, h)
 live-line k (Withdrawn l) h = absurd (false≢true h)
