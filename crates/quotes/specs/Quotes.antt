@@ -3,11 +3,11 @@ use mathlib.Core.Bool.{Bool, cond, _&&_}
 use mathlib.Core.List.{List, [], _∷_}
 use Prim.Native.Nat.{ℕ}
 use lib.Dec.{eqb}
+use Rattle.book.specs.Prices.{amounts-of}
 use Rattle.classes.specs.declared.refusal.Classes.{Classes}
 use Rattle.classes.specs.declared.usage.Usage.{Usage}
 use Rattle.classes.specs.Determinants.{Meaning}
 use Rattle.classes.specs.Outcomes.{Outcome, accepted, refusal, classes-outcome}
-use Rattle.tariff.specs.declared.charge.Amounts.{Amounts}
 use Rattle.tariff.specs.declared.terms.Tariff.{Tariff}
 use Rattle.tariff.specs.Fees.{charge-of}
 use Rattle.quotes.specs.declared.prices.Quote.{Quote}
@@ -36,9 +36,6 @@ is-for r c = eqb (r .vehicle) (c .vehicle) && eqb (r .location) (c .location)
 abbrev pub tariff-for : Tariff → List Rate → Classes → Tariff
 tariff-for general [] c = general
 tariff-for general (r ∷ rs) c = cond (is-for r c) (at-rate general (r .rate)) (tariff-for general rs c)
-
-abbrev pub amounts-of : Usage → Amounts
-amounts-of u = record { metres = u .metres; minutes = u .minutes; events = u .events }
 
 -- the quote for these classes, where no determinant refused
 abbrev pub quoted : Tariff → List Rate → Usage → Outcome Classes → Outcome Quote

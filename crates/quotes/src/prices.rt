@@ -1,13 +1,13 @@
 // A price list: one general tariff, and rates of their own for some vehicle and location classes.
 ghost use mathlib.Core.Path.{_≡_};
 ghost use Rattle.classes.specs.Outcomes.{outcome};
-ghost use Rattle.quotes.specs.Quotes.{is-for, tariff-for, amounts-of, quote-outcome};
+ghost use Rattle.quotes.specs.Quotes.{is-for, tariff-for, quote-outcome};
+use book::amounts_of;
 use classes::Classes;
 use classes::Determinant;
 use classes::Refusal;
 use classes::Usage;
 use classes::classify;
-use tariff::Amounts;
 use tariff::Charge;
 use tariff::Tariff;
 
@@ -53,16 +53,6 @@ impl PriceList<'_> {
             }
         }
         self.general
-    }
-}
-
-fn amounts_of(usage: &Usage) -> Amounts
-    ensures { λ r. ⌜ r ≡ amounts-of (now (usage .entry)) ⌝ }
-{
-    Amounts {
-        metres: usage.metres,
-        minutes: usage.minutes,
-        events: usage.events,
     }
 }
 
