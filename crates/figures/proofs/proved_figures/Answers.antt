@@ -7,5 +7,5 @@ pub returns : need.returns
 unfolding rounded
 returns c = record {
   count = c .rows .ensures;
-  hold = (refl, (refl, (refl, (refl, (refl, (refl, (refl, (refl, (refl, (refl, (refl, tt)))))))))));
+  hold = (refl, (refl, (refl, (refl, (refl, (refl, (refl, (refl, (refl, (refl, (refl, (refl, (refl, (refl, (refl, tt)))))))))))))));
 }
