@@ -22,16 +22,16 @@ use Rattle.lines.specs.declared.states.LineState.the-variants.{Free, Live, With
 use Rattle.lines.specs.Sets.{counts-in-range}
 use Rattle.lines.specs.Lines.{Combination, claims, line-fits, lines-meet, state-meets}
 use Rattle.lines.specs.Tables.{first-overlap}
-use Rattle.lines.specs.Gaps.{first-gap, NoGap}
+use Rattle.gaps.specs.Gaps.{first-gap, NoGap}
 use Rattle.lines.proofs.Numbers.{none-found}
 use Rattle.lines.proofs.Overlaps.{overlap-meet}
-use Rattle.lines.proofs.GapMeaning.{no-gap}
+use Rattle.gaps.proofs.Meaning.{no-gap}
 use Rattle.tariff.proofs.Ranges.{checked-exact}
-use Rattle.book.specs.declared.contents.Contents.{Contents}
-use Rattle.book.specs.declared.contents.Phase.{Phase}
-use Rattle.book.specs.declared.contents.Phase.the-variants.{Blank, Draft, Issued}
-use Rattle.book.specs.Contents.{in-phase, phase-number, new-contents, tariff-at, line-at, line-number, tariff-number, with-line, with-tariff}
-use Rattle.book.specs.Calls.{Refused, unless, settled, is-free, is-live, is-withdrawn, overlap-with, gap-with, overlap-refusal, open-refusal, opened, put-refusal, stored, add-refusal, added, withdraw-refusal, withdrawn, restore-refusal, restored, in-the-way, made-live, set-aside, given-up, strike-refusal, struck, issue-refusal, issued, reopen-refusal, reopened}
+use Rattle.contents.specs.declared.contents.Contents.{Contents}
+use Rattle.contents.specs.declared.contents.Phase.{Phase}
+use Rattle.contents.specs.declared.contents.Phase.the-variants.{Blank, Draft, Issued}
+use Rattle.contents.specs.Contents.{in-phase, phase-number, new-contents, tariff-at, line-at, line-number, tariff-number, with-line, with-tariff}
+use Rattle.contents.specs.Calls.{Refused, unless, settled, is-free, is-live, is-withdrawn, overlap-with, gap-with, overlap-refusal, open-refusal, opened, put-refusal, stored, add-refusal, added, withdraw-refusal, withdrawn, restore-refusal, restored, in-the-way, made-live, set-aside, given-up, strike-refusal, struck, issue-refusal, issued, reopen-refusal, reopened}
 use Rattle.book.specs.Sound.{Sound, Supported, AtMostOne}
 use Rattle.book.proofs.Places.{written-here, written-elsewhere, empty-number, number-range}
 

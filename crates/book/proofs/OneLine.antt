@@ -23,14 +23,13 @@ use Rattle.lines.specs.declared.states.LineState.{LineState}
 use Rattle.lines.specs.declared.states.LineState.the-variants.{Free, Live, Withdrawn}
 use Rattle.lines.specs.Lines.{Combination, claims, state-claims}
 use Rattle.lines.specs.Tables.{first-claim, Lowest, Claimed}
-use Rattle.lines.proofs.Numbers.{lowest-found, none-found}
-use Rattle.lines.proofs.GapMeaning.{live-line}
-use Rattle.book.specs.declared.contents.Contents.{Contents}
-use Rattle.book.specs.declared.contents.Phase.the-variants.{Issued}
-use Rattle.book.specs.declared.prices.Price.{Price}
-use Rattle.book.specs.Contents.{in-phase, tariff-at, line-at}
-use Rattle.book.specs.Calls.{Refused, unless, answered}
-use Rattle.book.specs.Prices.{Meanings, classes-of, amounts-of, amounts-in-range, count-refusal, class-refusal, price-refusal, by-tariff, by-state, by-number, price-of, priced, OneLine}
+use Rattle.lines.proofs.Numbers.{live-line, lowest-found, none-found}
+use Rattle.contents.specs.declared.contents.Contents.{Contents}
+use Rattle.contents.specs.declared.contents.Phase.the-variants.{Issued}
+use Rattle.contents.specs.declared.prices.Price.{Price}
+use Rattle.contents.specs.Contents.{in-phase, tariff-at, line-at}
+use Rattle.contents.specs.Calls.{Refused, unless, answered}
+use Rattle.contents.specs.Prices.{Meanings, classes-of, amounts-of, amounts-in-range, count-refusal, class-refusal, price-refusal, by-tariff, by-state, by-number, price-of, priced, OneLine}
 use Rattle.book.specs.Sound.{Sound}
 use Rattle.book.proofs.Keeps.{passed}
 use Rattle.book.proofs.Refusing.{answered-accepted, answered-refused}
@@ -47,17 +46,19 @@ priced-combination b d u e =
     let kv = passed (ltb 0 (d .vehicle .class u)) (16, 1 ∷ []) _ (amounts .1) in
     let kt = passed (ltb 0 (d .time .class u)) (16, 2 ∷ []) _ (kv .1) in
     let kl = passed (ltb 0 (d .location .class u)) (16, 3 ∷ []) _ (kt .1) in
-    let ku = passed (ltb 0 (d .user .class u)) (16, 4 ∷ []) None (kl .1) in
-    (phase .0, record {
-      vehicle-low = ltb-true 0 _ (kv .0);
-      vehicle-high = omega (arith, eqb-true _ _ (cv .0), d .vehicle .within u);
-      time-low = ltb-true 0 _ (kt .0);
-      time-high = omega (arith, eqb-true _ _ (ct .0), d .time .within u);
-      location-low = ltb-true 0 _ (kl .0);
-      location-high = omega (arith, eqb-true _ _ (cl .0), d .location .within u);
-      user-low = ltb-true 0 _ (ku .0);
-      user-high = omega (arith, eqb-true _ _ (cu .0), d .user .within u);
-    })
+    let ku = passed (ltb 0 (d .user .class u)) (16, 4 ∷ []) None (kl .1) in (
+      phase .0,
+      record {
+        vehicle-low = ltb-true 0 _ (kv .0);
+        vehicle-high = omega (arith, eqb-true _ _ (cv .0), d .vehicle .within u);
+        time-low = ltb-true 0 _ (kt .0);
+        time-high = omega (arith, eqb-true _ _ (ct .0), d .time .within u);
+        location-low = ltb-true 0 _ (kl .0);
+        location-high = omega (arith, eqb-true _ _ (cl .0), d .location .within u);
+        user-low = ltb-true 0 _ (ku .0);
+        user-high = omega (arith, eqb-true _ _ (cu .0), d .user .within u);
+      },
+    )
 
 module _ (b : Contents) (k : Classes) (a : Amounts) where
   -- a price comes from a live line that claims the classes, and from its tariff

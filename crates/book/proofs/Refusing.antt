@@ -18,15 +18,15 @@ use Rattle.lines.specs.declared.states.LineState.the-variants.{Free, Live, With
 use Rattle.lines.specs.Sets.{counts-in-range}
 use Rattle.lines.specs.Lines.{line-fits, lines-meet, state-meets, Overlap}
 use Rattle.lines.specs.Tables.{first-overlap, Lowest}
-use Rattle.lines.specs.Gaps.{first-gap, NoGap, FirstGap}
+use Rattle.gaps.specs.Gaps.{first-gap, NoGap, FirstGap}
 use Rattle.lines.proofs.Numbers.{lowest-found}
 use Rattle.lines.proofs.Overlaps.{meet-overlap, overlap-meet}
-use Rattle.lines.proofs.GapMeaning.{no-gap, first-gap-found}
-use Rattle.book.specs.declared.contents.Contents.{Contents}
-use Rattle.book.specs.declared.contents.Phase.the-variants.{Blank, Draft, Issued}
-use Rattle.book.specs.Contents.{in-phase, tariff-at, line-at, line-number, tariff-number}
-use Rattle.book.specs.Refusals.{gap-values}
-use Rattle.book.specs.Calls.{Refused, unless, answered, is-free, is-withdrawn, overlap-with, gap-with, overlap-refusal, in-the-way, add-refusal, restore-refusal, issue-refusal}
+use Rattle.gaps.proofs.Meaning.{no-gap, first-gap-found}
+use Rattle.contents.specs.declared.contents.Contents.{Contents}
+use Rattle.contents.specs.declared.contents.Phase.the-variants.{Blank, Draft, Issued}
+use Rattle.contents.specs.Contents.{in-phase, tariff-at, line-at, line-number, tariff-number}
+use Rattle.contents.specs.Refusals.{gap-values}
+use Rattle.contents.specs.Calls.{Refused, unless, answered, is-free, is-withdrawn, overlap-with, gap-with, overlap-refusal, in-the-way, add-refusal, restore-refusal, issue-refusal}
 use Rattle.book.specs.Laws.{LowestOverlap}
 use Rattle.book.specs.Sound.{Sound}
 use Rattle.book.proofs.Keeps.{passed, draft-only}

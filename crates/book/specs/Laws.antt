@@ -4,8 +4,8 @@ use Prim.Native.Nat.{ℕ, _≤_}
 use Rattle.lines.specs.declared.states.Line.{Line}
 use Rattle.lines.specs.declared.states.LineState.the-variants.{Live}
 use Rattle.lines.specs.Lines.{Overlap}
-use Rattle.book.specs.declared.contents.Contents.{Contents}
-use Rattle.book.specs.Contents.{line-at}
+use Rattle.contents.specs.declared.contents.Contents.{Contents}
+use Rattle.contents.specs.Contents.{line-at}
 
 -- line n is live, overlaps the line, and no lower live line does
 pub record LowestOverlap (b : Contents) (l : Line) (n : ℕ) : Type 0 where

@@ -12,10 +12,10 @@ use Rattle.lines.specs.declared.states.Line.{Line}
 use Rattle.lines.specs.declared.states.LineState.the-variants.{Live, Withdrawn}
 use Rattle.lines.specs.Sets.{counts-in-range}
 use Rattle.lines.specs.Lines.{Combination, claims, line-fits}
-use Rattle.lines.specs.Gaps.{NoGap}
-use Rattle.book.specs.declared.contents.Contents.{Contents}
-use Rattle.book.specs.declared.contents.Phase.the-variants.{Blank, Issued}
-use Rattle.book.specs.Contents.{in-phase, new-contents, tariff-at, line-at}
+use Rattle.gaps.specs.Gaps.{NoGap}
+use Rattle.contents.specs.declared.contents.Contents.{Contents}
+use Rattle.contents.specs.declared.contents.Phase.the-variants.{Blank, Issued}
+use Rattle.contents.specs.Contents.{in-phase, new-contents, tariff-at, line-at}
 
 -- at most one live line claims any combination
 abbrev pub AtMostOne : Contents → Type 0

@@ -1,6 +1,6 @@
 // The book: contents that are sound.
 ghost use Rattle.book.specs.Sound.{Sound};
-use crate::contents::Contents;
+use contents::Contents;
 
 #[derive(Clone, Copy)]
 pub struct Book {

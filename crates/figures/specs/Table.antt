@@ -2,9 +2,9 @@
 use mathlib.Core.List.{List, [], _∷_}
 use mathlib.Core.Path.{_≡_}
 use Prim.Native.Nat.{ℕ, _+_}
-use Rattle.book.specs.declared.contents.Contents.{Contents}
-use Rattle.book.specs.Calls.{answered, settled, open-refusal, opened, put-refusal, stored, add-refusal, added, withdraw-refusal, withdrawn, restore-refusal, restored, issue-refusal, issued, reopen-refusal, reopened}
-use Rattle.book.specs.Contents.{new-contents}
+use Rattle.contents.specs.declared.contents.Contents.{Contents}
+use Rattle.contents.specs.Calls.{answered, settled, open-refusal, opened, put-refusal, stored, add-refusal, added, withdraw-refusal, withdrawn, restore-refusal, restored, issue-refusal, issued, reopen-refusal, reopened}
+use Rattle.contents.specs.Contents.{new-contents}
 use Rattle.classes.specs.declared.usage.Instant.{Instant}
 use Rattle.classes.specs.Outcomes.{Outcome, accepted, refusal}
 use Rattle.classes.specs.Times.{weekday-of}

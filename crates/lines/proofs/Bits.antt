@@ -111,8 +111,8 @@ fits-below count s c fit has =
     let small = ltb-true (s .0) (2 ^ count) (and-parts (ltb 0 (s .0)) (ltb (s .0) (2 ^ count)) fit .1) in
     let parts = class-parts s c has in
     let above : count < c → ⊥ = λ lt.
-        let le : count ≤ c - 1 = omega arith in
-        let wide = pow-mono le in
-        let none : s .0 / 2 ^ (c - 1) ≡ 0 = omega (arith, div-below (s .0) (2 ^ (c - 1)) 1 (pow-pos (c - 1)) (omega (arith, small, wide, one-mul (2 ^ (c - 1))))) in
-        omega (arith, parts .2, ap (λ m. m % 2) none) in
+    let le : count ≤ c - 1 = omega arith in
+    let wide = pow-mono le in
+    let none : s .0 / 2 ^ (c - 1) ≡ 0 = omega (arith, div-below (s .0) (2 ^ (c - 1)) 1 (pow-pos (c - 1)) (omega (arith, small, wide, one-mul (2 ^ (c - 1))))) in
+    omega (arith, parts .2, ap (λ m. m % 2) none) in
     ⊎-elim (λ lt. absurd (above lt)) (λ le. le) (cases-lt count c)

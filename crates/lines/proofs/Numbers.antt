@@ -11,9 +11,12 @@ use Rattle.std.specs.declared.option.Option.{Option}
 use Rattle.std.specs.declared.option.Option.the-variants.{Some, None}
 use Rattle.std.specs.Options.{Cases as BySome}
 use Rattle.std.proofs.shelf.Lists.{drop-more, drop-all}
-use Rattle.std.proofs.shelf.Tests.{cases-bool, cases-eq, eq-eqb, ne-eqb}
+use Rattle.std.proofs.shelf.Tests.{cases-bool, cases-eq, eq-eqb, ne-eqb, false≢true}
+use Rattle.classes.specs.declared.refusal.Classes.{Classes}
+use Rattle.lines.specs.declared.states.Line.{Line}
 use Rattle.lines.specs.declared.states.LineState.{LineState}
-use Rattle.lines.specs.declared.states.LineState.the-variants.{Free}
+use Rattle.lines.specs.declared.states.LineState.the-variants.{Free, Live, Withdrawn}
+use Rattle.lines.specs.Lines.{claims, state-claims}
 use Rattle.lines.specs.Tables.{state-at, first-number, Lowest}
 
 -- a loop over the table, at place i
@@ -82,3 +85,9 @@ module _ (test : LineState → Bool) (free : test Free ≡ false) where
   pub lowest-meaning : (states : List LineState) (r : Option ℕ) → r ≡ first-number test 1 states → BySome r ((n : ℕ) → test (state-at states n) ≡ false) (Lowest test states)
   lowest-meaning states None e = none-found states (sym e)
   lowest-meaning states (Some n) e = lowest-found states n (sym e)
+
+-- what claims is live
+pub live-line : (k : Classes) (s : LineState) → state-claims k s ≡ true → (l : Line) × (s ≡ Live l) × (claims l k ≡ true)
+live-line k Free h = absurd (false≢true h)
+live-line k (Live l) h = (l, refl, h)
+live-line k (Withdrawn l) h = absurd (false≢true h)

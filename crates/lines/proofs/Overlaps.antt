@@ -46,10 +46,14 @@ module _ (counts : Counts) (a b : Line) where
       record {
         shared = record { vehicle = v .0; time = t .0; location = l .0; user = u .0 };
         combination = record {
-          vehicle-low = v .1; vehicle-high = v .2;
-          time-low = t .1; time-high = t .2;
-          location-low = l .1; location-high = l .2;
-          user-low = u .1; user-high = u .2;
+          vehicle-low = v .1;
+          vehicle-high = v .2;
+          time-low = t .1;
+          time-high = t .2;
+          location-low = l .1;
+          location-high = l .2;
+          user-low = u .1;
+          user-high = u .2;
         };
         by-first = four-from _ _ _ _ (v .3) (t .3) (l .3) (u .3);
         by-second = four-from _ _ _ _ (v .4) (t .4) (l .4) (u .4);

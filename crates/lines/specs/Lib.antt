@@ -1,4 +1,3 @@
-pub mod Gaps
 pub mod Lines
 pub mod Sets
 pub mod Tables

@@ -4,6 +4,9 @@ use mathlib.Core.Bool.{Bool, true, false, _&&_}
 use mathlib.Core.Path.{_≡_}
 use Prim.Native.Nat.{ℕ, _≤_}
 use Rattle.classes.specs.declared.refusal.Classes.{Classes}
+use Rattle.classes.specs.declared.refusal.Role.{Role}
+use Rattle.classes.specs.declared.refusal.Role.the-variants.{Vehicle, Time, Location, User}
+use Rattle.lines.specs.declared.sets.ClassSet.{ClassSet}
 use Rattle.lines.specs.declared.sets.Counts.{Counts}
 use Rattle.lines.specs.declared.states.Line.{Line}
 use Rattle.lines.specs.declared.states.LineState.{LineState}
@@ -20,6 +23,13 @@ pub record Combination (c : Counts) (k : Classes) : Type 0 where
   pub location-high : k .location ≤ c .locations
   pub user-low : 1 ≤ k .user
   pub user-high : k .user ≤ c .users
+
+-- a line's set for a determinant
+abbrev pub set-of : Role → Line → ClassSet
+set-of Vehicle l = l .vehicles
+set-of Time l = l .times
+set-of Location l = l .locations
+set-of User l = l .users
 
 abbrev pub claims : Line → Classes → Bool
 claims l k = has-class (l .vehicles) (k .vehicle) && has-class (l .times) (k .time) && has-class (l .locations) (k .location) && has-class (l .users) (k .user)

@@ -1,5 +1,4 @@
 // Lines of a tariff book: the classes that a line covers, the table of all line numbers, and what no line claims.
-mod gaps;
 mod sets;
 mod states;
 mod table;

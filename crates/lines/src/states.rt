@@ -4,10 +4,11 @@ ghost use mathlib.Core.Path.{_≡_};
 ghost use Rattle.std.specs.Orderings.{Decides};
 ghost use Rattle.lines.specs.declared.sets.Counts.{Counts};
 ghost use Rattle.lines.specs.Sets.{counts-in-range};
-ghost use Rattle.lines.specs.Lines.{claims, line-fits, lines-meet, Overlap};
+ghost use Rattle.lines.specs.Lines.{set-of, claims, line-fits, lines-meet, Overlap};
 use crate::sets::ClassSet;
 use crate::sets::Counts;
 use classes::Classes;
+use classes::Role;
 
 // The classes that a tariff covers.
 #[derive(Clone, Copy)]
@@ -28,6 +29,18 @@ pub enum LineState {
 }
 
 impl Line {
+    // The line's set for a determinant.
+    pub fn set(&self, role: Role) -> ClassSet
+        ensures { λ r. ⌜ r ≡ set-of role (now (self .entry)) ⌝ }
+    {
+        match role {
+            Role::Vehicle => self.vehicles,
+            Role::Time => self.times,
+            Role::Location => self.locations,
+            Role::User => self.users,
+        }
+    }
+
     // Whether each class is in its set.
     pub fn claims(&self, classes: &Classes) -> bool
         ensures { λ r. ⌜ r ≡ claims (now (self .entry)) (now (classes .entry)) ⌝ }

@@ -3,11 +3,11 @@ use mathlib.Core.Bool.{Bool, cond, _&&_}
 use mathlib.Core.List.{List, [], _∷_}
 use Prim.Native.Nat.{ℕ}
 use lib.Dec.{eqb}
-use Rattle.book.specs.Prices.{amounts-of}
 use Rattle.classes.specs.declared.refusal.Classes.{Classes}
 use Rattle.classes.specs.declared.usage.Usage.{Usage}
 use Rattle.classes.specs.Determinants.{Meaning}
 use Rattle.classes.specs.Outcomes.{Outcome, accepted, refusal, classes-outcome}
+use Rattle.contents.specs.Prices.{amounts-of}
 use Rattle.tariff.specs.declared.terms.Tariff.{Tariff}
 use Rattle.tariff.specs.Fees.{charge-of}
 use Rattle.quotes.specs.declared.prices.Quote.{Quote}

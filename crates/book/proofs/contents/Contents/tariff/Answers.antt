@@ -1,6 +1,0 @@
-use borrow.Author.Needs.{needs}
-use Rattle.std.proofs.shelf.Lists.{getD-past}
-use Rattle.book.proofs.contents.Contents.tariff.Needs as need
-
-pub returns-then-number-eq0 : need.returns-then-number-eq0
-returns-then-number-eq0 c = search (needs, getD-past)

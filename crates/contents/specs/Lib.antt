@@ -1,0 +1,4 @@
+pub mod Calls
+pub mod Contents
+pub mod Prices
+pub mod Refusals

@@ -1,0 +1,118 @@
+// What a book holds. It has no invariant: it is the plain model of which the contracts of the book speak.
+ghost use mathlib.Core.Bool.{cond};
+ghost use mathlib.Core.List.{[]};
+ghost use mathlib.Core.Path.{_≡_};
+ghost use Prim.Native.Nat.{_-_};
+ghost use Rattle.classes.specs.Outcomes.{accepted, refusal};
+ghost use Rattle.contents.specs.Calls.{answered, overlap-refusal};
+ghost use Rattle.contents.specs.Contents.{in-phase, new-contents, tariff-number, line-number, tariff-at, line-at};
+ghost use Rattle.contents.specs.Refusals.{outcome};
+use crate::refusal::Refusal;
+use lines::Counts;
+use lines::Line;
+use lines::LineState;
+use lines::LineTable;
+use tariff::Tariff;
+
+#[derive(Clone, Copy)]
+pub enum Phase {
+    Blank,
+    Draft,
+    Issued,
+}
+
+// Tariff n stands at place n - 1, and so does line n.
+#[derive(Clone, Copy)]
+pub struct Contents {
+    pub phase: Phase,
+    pub version: u8,
+    pub counts: Counts,
+    pub tariffs: [Option<Tariff>; Contents::TARIFFS],
+    pub lines: LineTable,
+}
+
+// The place of a line number in the table.
+pub(crate) fn line_place(number: u16) -> Result<usize, Refusal>
+    ensures { λ r. ⌜ outcome r ≡ cond (line-number number) (accepted (number - 1)) (refusal (5, [])) ⌝ }
+{
+    if number >= 1 && number <= LineTable::NUMBERS as u16 {
+        Ok(number as usize - 1)
+    } else {
+        Err(Refusal::NoSuchLine)
+    }
+}
+
+// The place of a tariff number in the table.
+pub(crate) fn tariff_place(number: u8) -> Result<usize, Refusal>
+    ensures { λ r. ⌜ outcome r ≡ cond (tariff-number number) (accepted (number - 1)) (refusal (3, [])) ⌝ }
+{
+    if number >= 1 && number <= Contents::TARIFFS as u8 {
+        Ok(number as usize - 1)
+    } else {
+        Err(Refusal::NoSuchTariff)
+    }
+}
+
+impl Contents {
+    pub const TARIFFS: usize = 64;
+
+    pub fn new() -> Contents
+        ensures { λ r. ⌜ r ≡ new-contents ⌝ }
+    {
+        Contents {
+            phase: Phase::Blank,
+            version: 0,
+            counts: Counts {
+                vehicles: 0,
+                times: 0,
+                locations: 0,
+                users: 0,
+            },
+            tariffs: [None; Contents::TARIFFS],
+            lines: LineTable {
+                states: [LineState::Free; LineTable::NUMBERS],
+            },
+        }
+    }
+
+    pub(crate) fn expect(&self, phase: Phase) -> Result<(), Refusal>
+        ensures { λ r. ⌜ outcome r ≡ cond (in-phase phase (now (self .entry))) (accepted tt) (refusal (1, [])) ⌝ }
+    {
+        if self.phase as u8 == phase as u8 {
+            Ok(())
+        } else {
+            Err(Refusal::WrongPhase)
+        }
+    }
+
+    // The tariff that was put under a number.
+    pub fn tariff(&self, number: u8) -> Option<Tariff>
+        ensures { λ r. ⌜ r ≡ tariff-at (now (self .entry)) number ⌝ }
+    {
+        let tariffs: &[Option<Tariff>] = &self.tariffs;
+        if number == 0 || number as usize > tariffs.len() {
+            return None;
+        }
+        tariffs[number as usize - 1]
+    }
+
+    // What stands at a line number.
+    pub fn line(&self, number: u16) -> LineState
+        ensures { λ r. ⌜ r ≡ line-at (now (self .entry)) number ⌝ }
+    {
+        let states: &[LineState] = &self.lines.states;
+        if number == 0 || number as usize > states.len() {
+            return LineState::Free;
+        }
+        states[number as usize - 1]
+    }
+
+    pub(crate) fn clear_of_lines(&self, line: &Line) -> Result<(), Refusal>
+        ensures { λ r. ⌜ outcome r ≡ answered (overlap-refusal (now (self .entry)) (now (line .entry))) tt ⌝ }
+    {
+        match self.lines.first_overlap(line) {
+            Some(number) => Err(Refusal::Overlap(number)),
+            None => Ok(()),
+        }
+    }
+}
