@@ -109,10 +109,10 @@ impl Contents {
     {
         self.expect(Phase::Draft)?;
         let place = line_place(number)?;
-        let LineState::Withdrawn(line) = self.line(number) else {
+        let LineState::Withdrawn(kept) = self.line(number) else {
             return Err(Refusal::NotWithdrawn);
         };
-        self.clear_of_lines(&line)?;
+        self.clear_of_lines(&kept)?;
         make_live(&mut self.lines.states[place]);
         Ok(())
     }

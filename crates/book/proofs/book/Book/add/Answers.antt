@@ -1,10 +1,10 @@
-use Rattle.book.proofs.Keeps.{left-sound, add-sound}
 use mathlib.Core.Path.{sym, _∙_}
+use Rattle.book.proofs.Keeps.{add-left}
 use Rattle.book.proofs.Refusing.{add-overlap}
 use Rattle.book.proofs.book.Book.add.Needs as need
 
 pub ghost-self : need.ghost-self
-ghost-self c = (left-sound _ _ _ _ (c .add .ensures .after) (c .args .self .now .sound) (add-sound (c .args .self .now .contents) (c .args .number) (c .args .line)), tt)
+ghost-self c = (search (add-left), tt)
 
 pub returns : need.returns
 returns c = record {

@@ -1,10 +1,10 @@
-use Rattle.book.proofs.Keeps.{left-sound, issue-sound}
 use mathlib.Core.Path.{sym, _∙_}
+use Rattle.book.proofs.Keeps.{issue-left}
 use Rattle.book.proofs.Refusing.{issue-gap, issue-whole}
 use Rattle.book.proofs.book.Book.issue.Needs as need
 
 pub ghost-self : need.ghost-self
-ghost-self c = (left-sound _ _ _ _ (c .issue .ensures .after) (c .args .self .now .sound) (issue-sound (c .args .self .now .contents)), tt)
+ghost-self c = (search (issue-left), tt)
 
 pub returns : need.returns
 returns c = record {

@@ -1,10 +1,10 @@
-use Rattle.book.proofs.Keeps.{left-sound, restore-sound}
 use mathlib.Core.Path.{sym, _∙_}
+use Rattle.book.proofs.Keeps.{restore-left}
 use Rattle.book.proofs.Refusing.{restore-overlap}
 use Rattle.book.proofs.book.Book.restore.Needs as need
 
 pub ghost-self : need.ghost-self
-ghost-self c = (left-sound _ _ _ _ (c .restore .ensures .after) (c .args .self .now .sound) (restore-sound (c .args .self .now .contents) (c .args .number)), tt)
+ghost-self c = (search (restore-left), tt)
 
 pub returns : need.returns
 returns c = record {
