@@ -1,9 +1,9 @@
 -- Every accepted call leaves a sound book sound.
-use mathlib.Core.Path.{_≡_, refl, sym, ap, subst, _∙_}
-use mathlib.Core.Bool.{Bool, true, false, cond}
+use mathlib.Core.Path.{_≡_, refl, sym, subst, _∙_}
+use mathlib.Core.Bool.{Bool, true, false}
 use mathlib.Core.List.{[]}
 use mathlib.Core.Logic.{_≢_, _⊎_, inl, inr, ⊎-elim, ∥∥₁-map}
-use Prim.Native.Nat.{ℕ, _+_, _≤_}
+use Prim.Native.Nat.{ℕ, _≤_}
 use native.Mathlib.Omega.{arith}
 use lib.Dec.{ltb}
 use lib.ListN.{length, length-set, length-replicate}
@@ -22,7 +22,7 @@ use Rattle.lines.specs.declared.states.LineState.the-variants.{Free, Live, With
 use Rattle.lines.specs.Sets.{counts-in-range}
 use Rattle.lines.specs.Lines.{Combination, claims, line-fits, lines-meet, state-meets}
 use Rattle.lines.specs.Tables.{first-overlap}
-use Rattle.gaps.specs.Gaps.{first-gap, NoGap}
+use Rattle.gaps.specs.Gaps.{first-gap}
 use Rattle.lines.proofs.Numbers.{none-found}
 use Rattle.lines.proofs.Overlaps.{overlap-meet}
 use Rattle.gaps.proofs.Meaning.{no-gap}
@@ -30,8 +30,8 @@ use Rattle.tariff.proofs.Ranges.{checked-exact}
 use Rattle.contents.specs.declared.contents.Contents.{Contents}
 use Rattle.contents.specs.declared.contents.Phase.{Phase}
 use Rattle.contents.specs.declared.contents.Phase.the-variants.{Blank, Draft, Issued}
-use Rattle.contents.specs.Contents.{in-phase, phase-number, new-contents, tariff-at, line-at, line-number, tariff-number, with-line, with-tariff}
-use Rattle.contents.specs.Calls.{Refused, unless, settled, is-free, is-live, is-withdrawn, overlap-with, gap-with, overlap-refusal, open-refusal, opened, put-refusal, stored, add-refusal, added, withdraw-refusal, withdrawn, restore-refusal, restored, in-the-way, made-live, set-aside, given-up, strike-refusal, struck, issue-refusal, issued, reopen-refusal, reopened}
+use Rattle.contents.specs.Contents.{in-phase, new-contents, tariff-at, line-at, line-number, tariff-number, with-line, with-tariff}
+use Rattle.contents.specs.Calls.{Refused, unless, settled, is-free, is-withdrawn, overlap-with, gap-with, overlap-refusal, open-refusal, opened, put-refusal, stored, add-refusal, added, withdraw-refusal, withdrawn, restore-refusal, restored, in-the-way, made-live, set-aside, given-up, strike-refusal, struck, issue-refusal, issued, reopen-refusal, reopened}
 use Rattle.book.specs.Sound.{Sound, Supported, AtMostOne}
 use Rattle.book.proofs.Places.{written-here, written-elsewhere, empty-number, number-range}
 

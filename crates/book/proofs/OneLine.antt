@@ -1,10 +1,10 @@
 -- In an issued book every combination has one line, and that line has a tariff.
 use mathlib.Core.Path.{_≡_, refl, sym, ap, subst, _∙_}
-use mathlib.Core.Bool.{Bool, true, false}
+use mathlib.Core.Bool.{true, false}
 use mathlib.Core.List.{[], _∷_}
 use mathlib.Core.HLevel.{⊥-prop}
 use mathlib.Core.Logic.{∥∥₁-elim}
-use Prim.Native.Nat.{ℕ, _≤_, _<_}
+use Prim.Native.Nat.{ℕ}
 use native.Mathlib.Nat.{ℕ-set}
 use native.Mathlib.Omega.{arith}
 use lib.Dec.{eqb, ltb}
@@ -14,22 +14,21 @@ use Rattle.std.specs.Options.{valueOr}
 use Rattle.std.proofs.shelf.Tests.{both-ways, eqb-true, ltb-true}
 use Rattle.classes.specs.declared.refusal.Classes.{Classes}
 use Rattle.classes.specs.declared.usage.Usage.{Usage}
-use Rattle.classes.specs.Outcomes.{Outcome, accepted, refusal}
+use Rattle.classes.specs.Outcomes.{accepted, refusal}
 use Rattle.tariff.specs.declared.charge.Amounts.{Amounts}
 use Rattle.tariff.specs.declared.terms.Tariff.{Tariff}
 use Rattle.tariff.specs.Fees.{charge-of}
 use Rattle.lines.specs.declared.states.Line.{Line}
-use Rattle.lines.specs.declared.states.LineState.{LineState}
-use Rattle.lines.specs.declared.states.LineState.the-variants.{Free, Live, Withdrawn}
+use Rattle.lines.specs.declared.states.LineState.the-variants.{Live}
 use Rattle.lines.specs.Lines.{Combination, claims, state-claims}
-use Rattle.lines.specs.Tables.{first-claim, Lowest, Claimed}
+use Rattle.lines.specs.Tables.{first-claim, Lowest}
 use Rattle.lines.proofs.Numbers.{live-line, lowest-found, none-found}
 use Rattle.contents.specs.declared.contents.Contents.{Contents}
 use Rattle.contents.specs.declared.contents.Phase.the-variants.{Issued}
 use Rattle.contents.specs.declared.prices.Price.{Price}
 use Rattle.contents.specs.Contents.{in-phase, tariff-at, line-at}
-use Rattle.contents.specs.Calls.{Refused, unless, answered}
-use Rattle.contents.specs.Prices.{Meanings, classes-of, amounts-of, amounts-in-range, count-refusal, class-refusal, price-refusal, by-tariff, by-state, by-number, price-of, priced, OneLine}
+use Rattle.contents.specs.Calls.{Refused, answered}
+use Rattle.contents.specs.Prices.{Meanings, classes-of, amounts-of, amounts-in-range, price-refusal, by-tariff, by-state, by-number, price-of, priced, OneLine}
 use Rattle.book.specs.Sound.{Sound}
 use Rattle.book.proofs.Keeps.{passed}
 use Rattle.book.proofs.Refusing.{answered-accepted, answered-refused}

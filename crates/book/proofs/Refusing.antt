@@ -1,9 +1,9 @@
 -- What a refusal's number says: the tests before it were passed, and its values are what they are said to be.
-use mathlib.Core.Path.{_≡_, refl, sym, ap, subst, _∙_}
+use mathlib.Core.Path.{_≡_, refl, ap, subst}
 use mathlib.Core.Bool.{Bool, true, false, Bool-set}
 use mathlib.Core.List.{List, [], _∷_}
 use mathlib.Core.Logic.{∥∥₁-elim, ⊎-elim}
-use Prim.Native.Nat.{ℕ, _+_, _≤_, _<_}
+use Prim.Native.Nat.{ℕ, _+_}
 use native.Mathlib.Omega.{arith}
 use lib.Dec.{ltb}
 use Rattle.std.specs.declared.option.Option.{Option}
@@ -11,19 +11,19 @@ use Rattle.std.specs.declared.option.Option.the-variants.{Some, None}
 use Rattle.std.specs.Options.{isSome}
 use Rattle.std.proofs.shelf.Tests.{both-ways, cases-lt, false≢true}
 use Rattle.classes.specs.declared.refusal.Classes.{Classes}
-use Rattle.classes.specs.Outcomes.{Outcome, accepted, refusal}
+use Rattle.classes.specs.Outcomes.{accepted, refusal}
 use Rattle.lines.specs.declared.states.Line.{Line}
 use Rattle.lines.specs.declared.states.LineState.{LineState}
 use Rattle.lines.specs.declared.states.LineState.the-variants.{Free, Live, Withdrawn}
 use Rattle.lines.specs.Sets.{counts-in-range}
-use Rattle.lines.specs.Lines.{line-fits, lines-meet, state-meets, Overlap}
+use Rattle.lines.specs.Lines.{line-fits, lines-meet, state-meets}
 use Rattle.lines.specs.Tables.{first-overlap, Lowest}
 use Rattle.gaps.specs.Gaps.{first-gap, NoGap, FirstGap}
 use Rattle.lines.proofs.Numbers.{lowest-found}
 use Rattle.lines.proofs.Overlaps.{meet-overlap, overlap-meet}
 use Rattle.gaps.proofs.Meaning.{no-gap, first-gap-found}
 use Rattle.contents.specs.declared.contents.Contents.{Contents}
-use Rattle.contents.specs.declared.contents.Phase.the-variants.{Blank, Draft, Issued}
+use Rattle.contents.specs.declared.contents.Phase.the-variants.{Draft}
 use Rattle.contents.specs.Contents.{in-phase, tariff-at, line-at, line-number, tariff-number}
 use Rattle.contents.specs.Refusals.{gap-values}
 use Rattle.contents.specs.Calls.{Refused, unless, answered, is-free, is-withdrawn, overlap-with, gap-with, overlap-refusal, in-the-way, add-refusal, restore-refusal, issue-refusal}

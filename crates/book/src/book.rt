@@ -2,7 +2,7 @@
 ghost use Rattle.book.specs.Sound.{Sound};
 use contents::Contents;
 
-#[derive(Clone, Copy)]
+#[derive(Drop)]
 pub struct Book {
     pub(crate) contents: Contents,
     ghost sound: { ∥ Sound contents ∥₁ },

@@ -1,6 +1,6 @@
 -- The calls. Each has a definition of its refusal, if there is one: tests in a fixed order, the first that fails giving
 -- the number and the values. Where there is none the call is accepted, and the contents change; else they stay.
-use mathlib.Core.Bool.{Bool, true, false, cond, _&&_}
+use mathlib.Core.Bool.{Bool, true, false, cond}
 use mathlib.Core.List.{List, [], _∷_}
 use Prim.Native.Nat.{ℕ, _+_}
 use lib.Dec.{ltb}

@@ -22,7 +22,7 @@ pub enum Phase {
 }
 
 // Tariff n stands at place n - 1, and so does line n.
-#[derive(Clone, Copy)]
+#[derive(Drop)]
 pub struct Contents {
     pub phase: Phase,
     pub version: u8,

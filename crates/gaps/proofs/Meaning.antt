@@ -1,25 +1,24 @@
 -- What the first gap means: it is unclaimed, and every earlier combination is claimed.
-use mathlib.Core.Path.{_≡_, refl, sym, ap, subst, _∙_}
-use mathlib.Core.Bool.{Bool, true, false, cond, _||_}
+use mathlib.Core.Path.{_≡_, refl, sym, subst, _∙_}
+use mathlib.Core.Bool.{Bool, true, false}
 use mathlib.Core.List.{List, [], _∷_}
-use mathlib.Core.Logic.{_⊎_, inl, inr, ⊎-elim}
+use mathlib.Core.Logic.{_⊎_, ⊎-elim}
 use Prim.Native.Nat.{ℕ, zero, suc, _+_, _-_, _≤_, _<_}
 use native.Mathlib.Omega.{arith}
 use lib.ListN.{getD}
 use Rattle.std.specs.declared.option.Option.{Option}
 use Rattle.std.specs.declared.option.Option.the-variants.{Some, None}
 use Rattle.std.specs.Options.{Cases as BySome}
-use Rattle.std.specs.Orderings.{Decides}
-use Rattle.std.proofs.shelf.Tests.{both-ways, cases-bool, cases-order, cases-eq, eq-eqb, ne-eqb, or-cases, or-left, or-right, false≢true}
+use Rattle.std.proofs.shelf.Tests.{both-ways, cases-order, cases-eq, eq-eqb, ne-eqb, or-cases, or-left, or-right, false≢true}
 use Rattle.classes.specs.declared.refusal.Classes.{Classes}
 use Rattle.lines.specs.declared.sets.Counts.{Counts}
 use Rattle.lines.specs.declared.states.Line.{Line}
 use Rattle.lines.specs.declared.states.LineState.{LineState}
-use Rattle.lines.specs.declared.states.LineState.the-variants.{Free, Live, Withdrawn}
+use Rattle.lines.specs.declared.states.LineState.the-variants.{Free, Live}
 use Rattle.lines.specs.Lines.{Combination, claims, state-claims}
-use Rattle.lines.specs.Tables.{state-at, Claimed}
+use Rattle.lines.specs.Tables.{Claimed}
 use Rattle.lines.proofs.Numbers.{live-line}
-use Rattle.gaps.specs.Gaps.{claimed, or-else, first-class-of, gap-at, gap-in-location, gap-in-time, gap-in-vehicle, first-gap, Before, NoGap, FirstGap}
+use Rattle.gaps.specs.Gaps.{claimed, first-class-of, gap-at, gap-in-location, gap-in-time, gap-in-vehicle, first-gap, Before, NoGap, FirstGap}
 
 -- the test for a claim, and the claim
 claim-place : (k : Classes) (states : List LineState) → claimed states k ≡ true → (i : ℕ) × (l : Line) × (getD states i Free ≡ Live l) × (claims l k ≡ true)

@@ -1,8 +1,8 @@
 -- The search for the first gap, class by class: what remains to be searched at each point of the four loops.
 use mathlib.Core.Path.{_≡_, refl, sym, ap, _∙_}
-use mathlib.Core.Bool.{Bool, true, false, cond, _&&_, _||_}
+use mathlib.Core.Bool.{Bool, true, false, cond, _||_}
 use mathlib.Core.List.{List, [], _∷_, map}
-use Prim.Native.Nat.{ℕ, zero, suc, _+_, _-_, _≤_, _<_}
+use Prim.Native.Nat.{ℕ, suc, _+_, _-_, _≤_, _<_}
 use native.Mathlib.Omega.{arith}
 use Rattle.std.specs.declared.option.Option.{Option}
 use Rattle.std.specs.declared.option.Option.the-variants.{Some, None}
@@ -10,7 +10,6 @@ use Rattle.classes.specs.declared.refusal.Classes.{Classes}
 use Rattle.classes.specs.declared.refusal.Role.the-variants.{Vehicle, Time}
 use Rattle.lines.specs.declared.sets.ClassSet.{ClassSet}
 use Rattle.lines.specs.declared.sets.Counts.{Counts}
-use Rattle.lines.specs.declared.states.Line.{Line}
 use Rattle.lines.specs.declared.states.LineState.{LineState}
 use Rattle.lines.specs.declared.states.LineState.the-variants.{Free, Live, Withdrawn}
 use Rattle.lines.specs.Sets.{has-class, union}

@@ -1,6 +1,6 @@
 -- Gaps. Combinations are tried in order, the user class fastest and the vehicle class slowest; the first that no live
 -- line claims is the gap.
-use mathlib.Core.Bool.{Bool, true, false, cond, _||_}
+use mathlib.Core.Bool.{Bool, false, cond, _||_}
 use mathlib.Core.List.{List, [], _∷_}
 use mathlib.Core.Logic.{_⊎_}
 use mathlib.Core.Path.{_≡_}

@@ -1,16 +1,15 @@
 -- The bits of a number, and the classes of a set.
-use mathlib.Core.Path.{_≡_, refl, sym, ap, _∙_}
-use mathlib.Core.Bool.{Bool, true, false, not, _&&_, _||_}
+use mathlib.Core.Path.{_≡_, sym, ap, _∙_}
+use mathlib.Core.Bool.{Bool, true, false, _&&_, _||_}
 use mathlib.Core.Logic.{⊎-elim}
-use Prim.Native.Nat.{ℕ, zero, suc, _+_, _-_, _*_, _/_, _%_, _^_, _≤_, _<_, min, max}
+use Prim.Native.Nat.{ℕ, _+_, _-_, _*_, _/_, _%_, _^_, _≤_, _<_, min, max}
 use native.Mathlib.Nat.{one-mul, zero-div}
 use native.Mathlib.Numerals.{unary-clauses}
 use native.Mathlib.Omega.{arith}
 use lib.Bits.{bitAnd, bitOr, and-step, or-step}
-use lib.Count.{leadingZeros}
 use lib.Dec.{eqb, leb, ltb, lit<}
 use lib.Pow.{pow-mono}
-use Rattle.std.proofs.shelf.Bits.{and-le-l, and-shr, or-shr, leading-top, div-mul-add, mod-mul-add, pow-pos, div-add-mod', mod-below, le-div, div-below}
+use Rattle.std.proofs.shelf.Bits.{and-le-l, and-shr, or-shr, leading-top, div-mul-add, mod-mul-add, pow-pos, mod-below, le-div, div-below}
 use Rattle.std.proofs.shelf.Tests.{and-parts, and-from, cases-lt, cases-bool, eqb-true, eqb-false, eq-eqb, ne-eqb, leb-true, ltb-true, le-leb, lt-ltb, le-ltb, not-true, not-from-false}
 use Rattle.std.proofs.shelf.Ways.{tells}
 use Rattle.classes.specs.Times.{has-bit}

@@ -1,7 +1,7 @@
 -- Two lines meet, set by set, exactly when some combination is claimed by both.
 use mathlib.Core.Path.{_≡_}
 use mathlib.Core.Bool.{Bool, true, _&&_}
-use Prim.Native.Nat.{ℕ, _^_, _≤_, _<_}
+use Prim.Native.Nat.{ℕ, _^_, _≤_}
 use native.Mathlib.Omega.{arith}
 use lib.Dec.{leb, ltb}
 use lib.Pow.{pow-mono}
@@ -10,8 +10,8 @@ use Rattle.std.proofs.shelf.Tests.{and-parts, and-from, leb-true, ltb-true}
 use Rattle.lines.specs.declared.sets.ClassSet.{ClassSet}
 use Rattle.lines.specs.declared.sets.Counts.{Counts}
 use Rattle.lines.specs.declared.states.Line.{Line}
-use Rattle.lines.specs.Sets.{has-class, set-fits, sets-meet, count-in-range, counts-in-range, ClassInBoth}
-use Rattle.lines.specs.Lines.{claims, line-fits, lines-meet, Combination, Overlap}
+use Rattle.lines.specs.Sets.{has-class, set-fits, sets-meet, count-in-range, counts-in-range}
+use Rattle.lines.specs.Lines.{line-fits, lines-meet, Overlap}
 use Rattle.lines.proofs.Bits.{class-parts, meet-shared, shared-meet, fits-below}
 
 -- the four parts of a test

@@ -2,7 +2,7 @@
 -- is claimed by both.
 use mathlib.Core.Bool.{Bool, true, false, _&&_}
 use mathlib.Core.Path.{_≡_}
-use Prim.Native.Nat.{ℕ, _≤_}
+use Prim.Native.Nat.{_≤_}
 use Rattle.classes.specs.declared.refusal.Classes.{Classes}
 use Rattle.classes.specs.declared.refusal.Role.{Role}
 use Rattle.classes.specs.declared.refusal.Role.the-variants.{Vehicle, Time, Location, User}

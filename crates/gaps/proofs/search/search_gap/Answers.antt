@@ -1,10 +1,5 @@
-use mathlib.Core.List.{map}
-use mathlib.Core.Path.{_≡_, sym, ap, _∙_}
-use mathlib.Core.Bool.{Bool}
-use Prim.Native.Nat.{_+_}
+use mathlib.Core.Path.{sym, _∙_}
 use native.Mathlib.Omega.{arith}
-use Rattle.classes.specs.declared.refusal.Classes.{Classes}
-use Rattle.gaps.specs.Gaps.{claimed}
 use Rattle.gaps.proofs.Remaining.{into-vehicle, into-time, into-location, found-user, next-user, narrowed-claimed}
 use Rattle.gaps.proofs.search.search_gap.Needs as need
 

@@ -1,10 +1,9 @@
-use mathlib.Core.Path.{_≡_, sym}
+use mathlib.Core.Path.{_≡_}
 use Prim.Native.Nat.{ℕ}
 use native.Mathlib.Omega.{arith}
 use Rattle.std.proofs.shelf.Results.{err-from-errBy}
 use Rattle.contents.specs.Prices.{Meanings, meanings}
 use Rattle.book.proofs.OneLine.{price-refused, price-missing, price-answer, price-line}
-use Rattle.book.proofs.book.Book.price.Given as given
 use Rattle.book.proofs.book.Book.price.Needs as need
 
 pub returns-in-Break-classes : need.returns-in-Break-classes
