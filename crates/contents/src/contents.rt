@@ -1,8 +1,10 @@
 // What a book holds. It has no invariant: it is the plain model of which the contracts of the book speak.
-ghost use mathlib.Core.Bool.{cond};
+ghost use mathlib.Core.Bool.{cond, _&&_};
 ghost use mathlib.Core.List.{[]};
 ghost use mathlib.Core.Path.{_≡_};
 ghost use Prim.Native.Nat.{_-_};
+ghost use lib.Dec.{leb};
+ghost use Rattle.std.specs.declared.option.Option.the-variants.{Some, None};
 ghost use Rattle.classes.specs.Outcomes.{accepted, refusal};
 ghost use Rattle.contents.specs.Calls.{answered, overlap-refusal};
 ghost use Rattle.contents.specs.Contents.{in-phase, new-contents, tariff-number, line-number, tariff-at, line-at};
@@ -31,26 +33,29 @@ pub struct Contents {
     pub lines: LineTable,
 }
 
+// The place of a number that counts from 1, among so many places.
+fn place_of(number: usize, places: usize) -> Option<usize>
+    ensures { λ r. ⌜ r ≡ cond (leb 1 number && leb number places) (Some (number - 1)) None ⌝ }
+{
+    if number >= 1 && number <= places {
+        Some(number - 1)
+    } else {
+        None
+    }
+}
+
 // The place of a line number in the table.
 pub(crate) fn line_place(number: u16) -> Result<usize, Refusal>
     ensures { λ r. ⌜ outcome r ≡ cond (line-number number) (accepted (number - 1)) (refusal (5, [])) ⌝ }
 {
-    if number >= 1 && number <= LineTable::NUMBERS as u16 {
-        Ok(number as usize - 1)
-    } else {
-        Err(Refusal::NoSuchLine)
-    }
+    place_of(number as usize, LineTable::NUMBERS).ok_or(Refusal::NoSuchLine)
 }
 
 // The place of a tariff number in the table.
 pub(crate) fn tariff_place(number: u8) -> Result<usize, Refusal>
     ensures { λ r. ⌜ outcome r ≡ cond (tariff-number number) (accepted (number - 1)) (refusal (3, [])) ⌝ }
 {
-    if number >= 1 && number <= Contents::TARIFFS as u8 {
-        Ok(number as usize - 1)
-    } else {
-        Err(Refusal::NoSuchTariff)
-    }
+    place_of(number as usize, Contents::TARIFFS).ok_or(Refusal::NoSuchTariff)
 }
 
 impl Contents {
@@ -90,10 +95,10 @@ impl Contents {
         ensures { λ r. ⌜ r ≡ tariff-at (now (self .entry)) number ⌝ }
     {
         let tariffs: &[Option<Tariff>] = &self.tariffs;
-        if number == 0 || number as usize > tariffs.len() {
-            return None;
+        match place_of(number as usize, tariffs.len()) {
+            Some(place) => tariffs[place],
+            None => None,
         }
-        tariffs[number as usize - 1]
     }
 
     // What stands at a line number.
@@ -101,10 +106,10 @@ impl Contents {
         ensures { λ r. ⌜ r ≡ line-at (now (self .entry)) number ⌝ }
     {
         let states: &[LineState] = &self.lines.states;
-        if number == 0 || number as usize > states.len() {
-            return LineState::Free;
+        match place_of(number as usize, states.len()) {
+            Some(place) => states[place],
+            None => LineState::Free,
         }
-        states[number as usize - 1]
     }
 
     pub(crate) fn clear_of_lines(&self, line: &Line) -> Result<(), Refusal>
