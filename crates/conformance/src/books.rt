@@ -9,13 +9,13 @@ mod tests {
     use classes::Usage;
     use classes::Whole;
     use classes::WholeDeterminant;
-    use contents::HIGHEST_AMOUNT;
-    use contents::Price;
     use contents::Refusal;
     use lines::ClassSet;
     use lines::Counts;
     use lines::Line;
     use lines::LineTable;
+    use prices::HIGHEST_AMOUNT;
+    use prices::Price;
     use std::test::*;
     use tariff::Terms;
 

@@ -1,4 +1,3 @@
 pub mod Calls
 pub mod Contents
-pub mod Prices
 pub mod Refusals

@@ -80,7 +80,8 @@ impl Contents {
         }
     }
 
-    pub(crate) fn expect(&self, phase: Phase) -> Result<(), Refusal>
+    // Refuses unless the book is in this phase.
+    pub fn expect(&self, phase: Phase) -> Result<(), Refusal>
         ensures { λ r. ⌜ outcome r ≡ cond (in-phase phase (now (self .entry))) (accepted tt) (refusal (1, [])) ⌝ }
     {
         if self.phase as u8 == phase as u8 {

@@ -1,5 +1,6 @@
 // Why a call is refused.
 ghost use mathlib.Core.Path.{_≡_};
+ghost use Rattle.classes.specs.Outcomes.{numbered as class-numbered};
 ghost use Rattle.contents.specs.Refusals.{numbered};
 use classes::Classes;
 use classes::Role;
@@ -58,6 +59,16 @@ impl Refusal {
             Refusal::CountUnlike(_) => 14,
             Refusal::AmountOutOfRange => 15,
             Refusal::NoClass(_) => 16,
+        }
+    }
+}
+
+pub impl From<classes::Refusal> for Refusal as FromClasses {
+    ghost converts = { λ e r. numbered r ≡ class-numbered e };
+
+    fn from(refusal: classes::Refusal) -> Refusal {
+        match refusal {
+            classes::Refusal::NoClass(role) => Refusal::NoClass(role),
         }
     }
 }

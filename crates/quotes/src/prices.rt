@@ -7,7 +7,7 @@ use classes::Determinant;
 use classes::Refusal;
 use classes::Usage;
 use classes::classify;
-use contents::amounts_of;
+use prices::amounts_of;
 use tariff::Charge;
 use tariff::Tariff;
 

@@ -20,11 +20,11 @@ use Rattle.lines.specs.declared.states.LineState.{LineState}
 use Rattle.lines.specs.declared.states.LineState.the-variants.{Free, Live, Withdrawn}
 use Rattle.lines.specs.Lines.{claims}
 use Rattle.lines.specs.Tables.{first-claim}
 use Rattle.contents.specs.declared.contents.Contents.{Contents}
 use Rattle.contents.specs.declared.contents.Phase.the-variants.{Issued}
-use Rattle.contents.specs.declared.prices.Price.{Price}
+use Rattle.prices.specs.declared.pricing.Price.{Price}
 use Rattle.contents.specs.Contents.{in-phase, tariff-at, line-at}
 use Rattle.contents.specs.Calls.{Refused, unless}
 
 -- what was driven, in each measure
 abbrev pub amounts-of : Usage → Amounts
