@@ -25,10 +25,10 @@ use Rattle.lines.specs.Tables.{first-claim, Lowest}
 use Rattle.lines.proofs.Numbers.{live-line, lowest-found, none-found}
 use Rattle.contents.specs.declared.contents.Contents.{Contents}
 use Rattle.contents.specs.declared.contents.Phase.the-variants.{Issued}
-use Rattle.prices.specs.declared.pricing.Price.{Price}
+use Rattle.charging.specs.declared.pricing.Price.{Price}
 use Rattle.contents.specs.Contents.{in-phase, tariff-at, line-at}
 use Rattle.contents.specs.Calls.{Refused, answered}
-use Rattle.prices.specs.Prices.{Meanings, classes-of, amounts-of, amounts-in-range, price-refusal, by-tariff, by-state, by-number, price-of, priced, OneLine}
+use Rattle.charging.specs.Prices.{Meanings, classes-of, amounts-of, amounts-in-range, price-refusal, by-tariff, by-state, by-number, price-of, priced, OneLine}
 use Rattle.book.specs.Sound.{Sound}
 use Rattle.book.proofs.Keeps.{passed}
 use Rattle.book.proofs.Refusing.{answered-accepted, answered-refused}

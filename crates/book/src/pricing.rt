@@ -1,18 +1,18 @@
 // The pricing call of a book, for any four determinants.
 ghost use mathlib.Core.Path.{_≡_};
 ghost use Rattle.classes.specs.Outcomes.{accepted};
-ghost use Rattle.prices.specs.declared.pricing.Price.{Price};
+ghost use Rattle.charging.specs.declared.pricing.Price.{Price};
 ghost use Rattle.contents.specs.Calls.{answered};
-ghost use Rattle.prices.specs.Prices.{Meanings, amounts-of, meanings, classes-of, price-refusal, priced, OneLine};
+ghost use Rattle.charging.specs.Prices.{Meanings, amounts-of, meanings, classes-of, price-refusal, priced, OneLine};
 ghost use Rattle.contents.specs.Refusals.{outcome};
 use crate::book::Book;
+use charging::Price;
+use charging::amounts_of;
+use charging::price_of;
+use charging::priced_classes;
 use classes::Determinant;
 use classes::Usage;
 use contents::Refusal;
-use prices::Price;
-use prices::amounts_of;
-use prices::price_of;
-use prices::priced_classes;
 
 impl Book {
     // What a usage costs by the one line that claims its classes.

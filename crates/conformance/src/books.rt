@@ -4,6 +4,8 @@ mod tests {
     use crate::axles::ByAxles;
     use crate::axles::ByAxlesDeterminant;
     use book::Book;
+    use charging::HIGHEST_AMOUNT;
+    use charging::Price;
     use classes::Instant;
     use classes::Role;
     use classes::Usage;
@@ -14,8 +16,6 @@ mod tests {
     use lines::Counts;
     use lines::Line;
     use lines::LineTable;
-    use prices::HIGHEST_AMOUNT;
-    use prices::Price;
     use std::test::*;
     use tariff::Terms;
 

@@ -7,7 +7,7 @@ use Rattle.classes.specs.declared.refusal.Classes.{Classes}
 use Rattle.classes.specs.declared.usage.Usage.{Usage}
 use Rattle.classes.specs.Determinants.{Meaning}
 use Rattle.classes.specs.Outcomes.{Outcome, accepted, refusal, classes-outcome}
-use Rattle.prices.specs.Prices.{amounts-of}
+use Rattle.charging.specs.Prices.{amounts-of}
 use Rattle.tariff.specs.declared.terms.Tariff.{Tariff}
 use Rattle.tariff.specs.Fees.{charge-of}
 use Rattle.quotes.specs.declared.prices.Quote.{Quote}

@@ -2,12 +2,12 @@
 ghost use mathlib.Core.Path.{_≡_};
 ghost use Rattle.classes.specs.Outcomes.{outcome};
 ghost use Rattle.quotes.specs.Quotes.{is-for, tariff-for, quote-outcome};
+use charging::amounts_of;
 use classes::Classes;
 use classes::Determinant;
 use classes::Refusal;
 use classes::Usage;
 use classes::classify;
-use prices::amounts_of;
 use tariff::Charge;
 use tariff::Tariff;
 

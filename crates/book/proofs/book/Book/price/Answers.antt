@@ -2,7 +2,7 @@ use mathlib.Core.Path.{_≡_}
 use Prim.Native.Nat.{ℕ}
 use native.Mathlib.Omega.{arith}
 use Rattle.std.proofs.shelf.Results.{err-from-errBy}
-use Rattle.prices.specs.Prices.{Meanings, meanings}
+use Rattle.charging.specs.Prices.{Meanings, meanings}
 use Rattle.book.proofs.OneLine.{price-refused, price-missing, price-answer, price-line}
 use Rattle.book.proofs.book.Book.price.Needs as need
 

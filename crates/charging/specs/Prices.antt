@@ -22,7 +22,7 @@ use Rattle.lines.specs.Lines.{claims}
 use Rattle.lines.specs.Tables.{first-claim}
 use Rattle.contents.specs.declared.contents.Contents.{Contents}
 use Rattle.contents.specs.declared.contents.Phase.the-variants.{Issued}
-use Rattle.prices.specs.declared.pricing.Price.{Price}
+use Rattle.charging.specs.declared.pricing.Price.{Price}
 use Rattle.contents.specs.Contents.{in-phase, tariff-at, line-at}
 use Rattle.contents.specs.Calls.{Refused, unless}
 

@@ -5,7 +5,7 @@ ghost use mathlib.Core.Path.{_≡_};
 ghost use lib.Dec.{eqb};
 ghost use Rattle.classes.specs.Outcomes.{accepted, refusal, role-number};
 ghost use Rattle.contents.specs.Calls.{answered};
-ghost use Rattle.prices.specs.Prices.{Meanings, amounts-of, amounts-in-range, meanings, classes-of, price-refusal, price-of};
+ghost use Rattle.charging.specs.Prices.{Meanings, amounts-of, amounts-in-range, meanings, classes-of, price-refusal, price-of};
 ghost use Rattle.contents.specs.Refusals.{outcome};
 use classes::Classes;
 use classes::Determinant;
