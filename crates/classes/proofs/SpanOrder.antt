@@ -1,6 +1,6 @@
 -- Spans in order: the test and the facts are the same, and the facts keep every key out of all spans but one.
 use Rattle.std.proofs.Common.{◌≡◌, ℕ, zero, suc, ◌+◌, ◌-◌, ◌<◌, Bool, true, false, List, [], ◌∷◌, length, get_or, drop, Some, None, Option, sym, refl, ⊎_elim, add-one, arith}
-use Rattle.std.proofs.lemmas.Bool.{both_ways, and_parts, and_from, not_true, not_from_false, cases_order, cases_Bool}
+use Rattle.std.proofs.lemmas.Bool.{both_ways, and_parts, and_from, not-true, not_from_false, cases_order, cases_Bool}
 use Rattle.classes.specs.declared.spans.Span.{Span}
 use Rattle.classes.specs.Spans.{span_covers, after_high, span_follows, spans_ordered, spans_ordered_from, InOrder, NoKeyTwice}
 use Rattle.classes.proofs.Steps.{drop_read}
@@ -29,7 +29,7 @@ module _ {K : Type 0} (upto : K → K → Bool) where
   rising : (before : Option K) (ss : List (Span K)) → spans_ordered_from upto before ss ≡ true → (i : ℕ) (d : Span K) → suc i < length ss → upto (get_or ss (suc i) d).low (get_or ss i d).high ≡ false
   rising before [] h i d lt = absurd (omega arith)
   rising before (s ∷ []) h i d lt = absurd (omega arith)
-  rising before (s ∷ t ∷ ss) h zero d lt = not_true _ (parts (Some s.high) t ss (parts before s (t ∷ ss) h).2).0
+  rising before (s ∷ t ∷ ss) h zero d lt = not-true _ (parts (Some s.high) t ss (parts before s (t ∷ ss) h).2).0
   rising before (s ∷ t ∷ ss) h (suc i) d lt = rising (Some s.high) (t ∷ ss) (parts before s (t ∷ ss) h).2 i d (omega arith)
 
   pub in_order : (ss : List (Span K)) → spans_ordered upto ss ≡ true → InOrder upto ss

@@ -1,4 +1,6 @@
 // Usages and their classes: what was driven, the determinants that class it, and the four classes of a usage.
+#![tactic(auto)]
+
 mod determinant;
 mod entries;
 mod keys;

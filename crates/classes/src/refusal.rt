@@ -83,7 +83,7 @@ impl fmt::Display for Refusal {
 }
 
 fn class_by<D: Determinant>(role: Role, determinant: &D, usage: &Usage) -> Result<u8, Refusal>
-    ensures { outcome result ≡ class_outcome (role_number role) ((meaning determinant.now).class usage.now) }
+    ensures { outcome result ≡ class_outcome (role_number role) ((D.meaning determinant.now).class usage.now) }
 {
     match determinant.class(usage) {
         0 => Err(Refusal::NoClass(role)),

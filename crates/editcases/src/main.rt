@@ -1,4 +1,6 @@
 // Runs the editing scripts of a file of cases, and counts those that print what is expected.
+#![tactic(auto)]
+
 use editing::answers;
 use journal::{answer_line, refused_line};
 use script::{ScriptError, Step, parse_script};

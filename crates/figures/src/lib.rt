@@ -1,4 +1,6 @@
 // The worked figures of the documents, as theorems of the definitions that the contracts use.
+#![tactic(auto)]
+
 ghost use Rattle.std.specs.Prelude.{◌≡◌, length};
 ghost use Rattle.figures.specs.Table.{figures, Holds};
 

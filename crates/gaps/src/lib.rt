@@ -1,4 +1,6 @@
 // Gaps: the first combination of classes that no live line claims.
+#![tactic(auto)]
+
 mod search;
 
 pub use search::first_gap;

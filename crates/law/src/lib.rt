@@ -1,4 +1,6 @@
 // The law over runs of calls: every history that the calls of a book can have is lawful.
+#![tactic(auto)]
+
 ghost use Rattle.std.specs.Prelude.{◌≡◌};
 ghost use Rattle.law.specs.Law.{AnsweredIsLawful, EveryRunIsLawful};
 

@@ -4,7 +4,7 @@ use native.Mathlib.Nat.{zero-div}
 use native.Mathlib.Numerals.{unary_clauses}
 use lib.Bits.{bit_and, bit_or, and_step, or_step}
 use Rattle.std.proofs.lemmas.Nat.{and_le_l, and_shr, or_shr, leading_top, div-mul-add, mod-mul-add, pow_pos, mod_below, le-div, div_below}
-use Rattle.std.proofs.lemmas.Bool.{and_parts, and_from, cases_lt, cases_Bool, eqb-true, eqb-false, eq-eqb, ne_eqb, leb-true, ltb-true, le-leb, lt-ltb, le-ltb, not_true, not_from_false}
+use Rattle.std.proofs.lemmas.Bool.{and_parts, and_from, cases_lt, cases_Bool, eqb-true, eqb-false, eq-eqb, ne_eqb, leb-true, ltb-true, le-leb, lt-ltb, le-ltb, not-true, not_from_false}
 use Rattle.std.proofs.lemmas.Bool.Decides.{nat_tests}
 use Rattle.classes.specs.Times.{has_bit}
 use Rattle.lines.specs.declared.sets.ClassSet.{ClassSet}
@@ -82,7 +82,7 @@ has_none s c e = ⊎_elim (λ h. absurd (omega (arith, (class_parts s c h).2, no
 pub meet_shared : (a b : ClassSet) → a.0 < 2 ^ 64 → sets_meet a b ≡ true → ClassInBoth a b
 meet_shared a b lt h =
     let both : ℕ = bit_and a.0 b.0 in
-    let some : 0 < both = omega (arith, eqb-false both 0 (not_true (eqb both 0) h)) in
+    let some : 0 < both = omega (arith, eqb-false both 0 (not-true (eqb both 0) h)) in
     let bit = some_bit both 64 some (omega (arith, lt, and_le_l a.0 b.0)) in
     let k : ℕ = bit.0 in
     let least : min (a.0 / 2 ^ k % 2) (b.0 / 2 ^ k % 2) ≡ 1 = sym (and_bit a.0 b.0 k) ∙ bit.2 in

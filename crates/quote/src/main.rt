@@ -1,4 +1,6 @@
 // Quotes a dozen trips by the scheme, a line each.
+#![tactic(auto)]
+
 mod scheme;
 
 use quotes::{quote_line, quote_trip};

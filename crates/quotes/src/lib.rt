@@ -1,4 +1,6 @@
 // Quotes: what a trip would cost by a list of rates, and the line that says so.
+#![tactic(auto)]
+
 mod prices;
 mod text;
 

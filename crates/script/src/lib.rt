@@ -1,4 +1,6 @@
 // Editing scripts: a text with one command on a line is read into steps, or refused at a line.
+#![tactic(auto)]
+
 mod commands;
 mod contracts;
 mod fields;

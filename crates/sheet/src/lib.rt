@@ -1,4 +1,6 @@
 // The tariff sheet: the bytes of a book's version, counts, tariffs and live lines, read and written.
+#![tactic(auto)]
+
 mod fields;
 mod reading;
 mod records;

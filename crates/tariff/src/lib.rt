@@ -1,4 +1,6 @@
 // Tariffs: the numbers that make one, the rounding of a quotient, and what a tariff charges for an amount.
+#![tactic(auto)]
+
 mod charge;
 mod codes;
 mod terms;

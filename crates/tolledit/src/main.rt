@@ -1,4 +1,6 @@
 // Runs an editing script from standard input, and prints one line for each command.
+#![tactic(auto)]
+
 use anyhow::anyhow;
 use editing::answers;
 use journal::{Answer, answer_line, refused_line};

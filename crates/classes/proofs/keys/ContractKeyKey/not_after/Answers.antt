@@ -12,7 +12,7 @@ pub loop-i-preserved : goal.loop-i-preserved
 loop-i-preserved c =
     let in_self : c.loop-i.i < length c.args.self.now.text = search rules in
     let in_other : c.loop-i.i < length c.args.other.now.text = search rules in
-    c.loop-i.invariant ∙ bytes_agree _ _ c.loop-i.i in_self in_other c.in-default.ensures
+    c.loop-i.invariant ∙ bytes_agree _ _ c.loop-i.i in_self in_other c.in_default.ensures
 
 pub returns : goal.returns
 returns c =
