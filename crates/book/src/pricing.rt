@@ -21,8 +21,8 @@ impl Book {
         user: &U,
         usage: &Usage,
     ) -> Result<Price, Refusal>
-        ensures answer { let d : Meanings = meanings (V.Determinant.meaning vehicle.now) (T.Determinant.meaning time.now) (L.Determinant.meaning location.now) (U.Determinant.meaning user.now) in outcome result ≡ answered (price_refusal self.now.contents d usage.now) (priced self.now.contents d usage.now) }
-        ensures one { let d : Meanings = meanings (V.Determinant.meaning vehicle.now) (T.Determinant.meaning time.now) (L.Determinant.meaning location.now) (U.Determinant.meaning user.now) in ((p : Price) → outcome result ≡ accepted p → OneLine self.now.contents (classes_of d usage.now) (amounts_of usage.now) p) }
+        ensures answer { let d : Meanings = meanings (V.meaning vehicle.now) (T.meaning time.now) (L.meaning location.now) (U.meaning user.now) in outcome result ≡ answered (price_refusal self.now.contents d usage.now) (priced self.now.contents d usage.now) }
+        ensures one { let d : Meanings = meanings (V.meaning vehicle.now) (T.meaning time.now) (L.meaning location.now) (U.meaning user.now) in ((p : Price) → outcome result ≡ accepted p → OneLine self.now.contents (classes_of d usage.now) (amounts_of usage.now) p) }
     {
         let classes = priced_classes(&self.contents, vehicle, time, location, user, usage)?;
         match price_of(&self.contents, &classes, &amounts_of(usage)) {

@@ -60,7 +60,7 @@ pub fn priced_classes<V: Determinant, T: Determinant, L: Determinant, U: Determi
     user: &U,
     usage: &Usage,
 ) -> Result<Classes, Refusal>
-    ensures { let d : Meanings = meanings (V.Determinant.meaning vehicle.now) (T.Determinant.meaning time.now) (L.Determinant.meaning location.now) (U.Determinant.meaning user.now) in outcome result ≡ answered (price_refusal contents.now d usage.now) (classes_of d usage.now) }
+    ensures { let d : Meanings = meanings (V.meaning vehicle.now) (T.meaning time.now) (L.meaning location.now) (U.meaning user.now) in outcome result ≡ answered (price_refusal contents.now d usage.now) (classes_of d usage.now) }
 {
     contents.expect(Phase::Issued)?;
     same_count(Role::Vehicle, vehicle, contents.counts.vehicles)?;

@@ -18,7 +18,7 @@ pub trait Entry<Q> {
 
 // Whether the entry decides: it covers what is asked, and its class is from 1 to the count.
 fn decides<Q, E: Entry<Q>>(count: u8, entry: &E, asked: &Q) -> bool
-    ensures { result ≡ (usable count (E.given entry.now) && covering entry.now asked.now) }
+    ensures { result ≡ (usable count (E.given entry.now) && E.covering entry.now asked.now) }
 {
     let class = entry.class();
     class >= 1 && class <= count && entry.covers(asked)
@@ -26,8 +26,8 @@ fn decides<Q, E: Entry<Q>>(count: u8, entry: &E, asked: &Q) -> bool
 
 // The class of the first entry that decides, or 0 where none does.
 pub fn first_match<Q, E: Entry<Q>>(count: u8, entries: &[E], asked: &Q) -> u8
-    ensures value { result ≡ first_class E.given (λ e. covering e asked.now) count entries.now }
-    ensures meaning { FirstApplies E.given (λ e. covering e asked.now) count entries.now result }
+    ensures value { result ≡ first_class E.given (λ e. E.covering e asked.now) count entries.now }
+    ensures meaning { FirstApplies E.given (λ e. E.covering e asked.now) count entries.now result }
 {
     for entry in entries {
         if decides(count, entry, asked) {

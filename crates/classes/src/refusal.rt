@@ -99,7 +99,7 @@ pub fn classify<V: Determinant, T: Determinant, L: Determinant, U: Determinant>(
     user: &U,
     usage: &Usage,
 ) -> Result<Classes, Refusal>
-    ensures { outcome result ≡ classes_outcome ((V.Determinant.meaning vehicle.now).class usage.now) ((T.Determinant.meaning time.now).class usage.now) ((L.Determinant.meaning location.now).class usage.now) ((U.Determinant.meaning user.now).class usage.now) }
+    ensures { outcome result ≡ classes_outcome ((V.meaning vehicle.now).class usage.now) ((T.meaning time.now).class usage.now) ((L.meaning location.now).class usage.now) ((U.meaning user.now).class usage.now) }
 {
     let vehicle = class_by(Role::Vehicle, vehicle, usage)?;
     let time = class_by(Role::Time, time, usage)?;

@@ -70,7 +70,7 @@ fn answer<V: Determinant, T: Determinant, L: Determinant, U: Determinant>(
     book: &mut Book,
     call: &Call<V, T, L, U>,
 ) -> Result<Answer, AllocError>
-    ensures { IfOk result (λ x. OneStep book.old.contents (asked V.Determinant.meaning T.Determinant.meaning L.Determinant.meaning U.Determinant.meaning call.now) (told x) book.new.contents) }
+    ensures { IfOk result (λ x. OneStep book.old.contents (asked V.meaning T.meaning L.meaning U.meaning call.now) (told x) book.new.contents) }
 {
     let answer = match call {
         Call::Open(counts) => done_answer(book.open(*counts)),
@@ -100,9 +100,9 @@ pub fn replay<V: Determinant, T: Determinant, L: Determinant, U: Determinant>(
     calls: &[Call<V, T, L, U>],
 ) -> Result<Vec<Answer>, AllocError>
     ensures many { IfOk result (λ answers. vec_len answers ≡ length calls.now) }
-    ensures lawful { let asks : List Asked = map (asked V.Determinant.meaning T.Determinant.meaning L.Determinant.meaning U.Determinant.meaning) calls.now in IfOk result (λ answers. Lawful (entries asks (map told answers.items))) }
-    ensures bytes { let asks : List Asked = map (asked V.Determinant.meaning T.Determinant.meaning L.Determinant.meaning U.Determinant.meaning) calls.now in OnOk result (All ReadsBytes asks) }
-    ensures answers { let asks : List Asked = map (asked V.Determinant.meaning T.Determinant.meaning L.Determinant.meaning U.Determinant.meaning) calls.now in IfOk result (λ answers. entries asks (map told answers.items) ≡ history_of asks) }
+    ensures lawful { let asks : List Asked = map (asked V.meaning T.meaning L.meaning U.meaning) calls.now in IfOk result (λ answers. Lawful (entries asks (map told answers.items))) }
+    ensures bytes { let asks : List Asked = map (asked V.meaning T.meaning L.meaning U.meaning) calls.now in OnOk result (All ReadsBytes asks) }
+    ensures answers { let asks : List Asked = map (asked V.meaning T.meaning L.meaning U.meaning) calls.now in IfOk result (λ answers. entries asks (map told answers.items) ≡ history_of asks) }
 {
     let mut book = Book::new();
     let mut answers = Vec::new(heap);

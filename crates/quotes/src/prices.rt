@@ -61,7 +61,7 @@ pub fn quote_trip<V: Determinant, T: Determinant, L: Determinant, U: Determinant
     prices: &PriceList,
     usage: &Usage,
 ) -> Result<Quote, Refusal>
-    ensures { outcome result ≡ quote_outcome prices.now.general prices.now.rates.now usage.now (V.Determinant.meaning vehicle.now) (T.Determinant.meaning time.now) (L.Determinant.meaning location.now) (U.Determinant.meaning user.now) }
+    ensures { outcome result ≡ quote_outcome prices.now.general prices.now.rates.now usage.now (V.meaning vehicle.now) (T.meaning time.now) (L.meaning location.now) (U.meaning user.now) }
 {
     let classes = classify(vehicle, time, location, user, usage)?;
     let charge = prices.tariff_for(&classes).charge(&amounts_of(usage));

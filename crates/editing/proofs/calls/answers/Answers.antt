@@ -15,7 +15,7 @@ returns c =
     let steps = c.args.steps.now in
     let sheets = map vec_items c.args.sheets.now in
     let whole = asked (λ _. whole_meaning) (λ _. whole_meaning) (λ _. whole_meaning) (λ _. whole_meaning) in
-    let same = ap (map whole) c.as-slice.ensures.value ∙ c.in-ok-calls.ensures in
+    let same = ap (map whole) c.as_slice.ensures.value ∙ c.in_ok-calls.ensures in
     let many = sym (length-map _ whole) ∙ ap length same ∙ length_calls 0 sheets steps in
     record {
       many = subst (λ n. IfOk c.replay.result (λ answers. vec_len answers ≡ n)) many c.replay.ensures.many;

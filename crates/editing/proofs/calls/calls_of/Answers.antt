@@ -24,11 +24,11 @@ loop-place-preserved c =
     let whole = asked (λ _. whole_meaning) (λ _. whole_meaning) (λ _. whole_meaning) (λ _. whole_meaning) in
     let before = vec_items c.loop-place.calls in
     let rest = calls_from (i + 1) sheets (map plain_step (drop (i + 1) steps)) in
-    let items = c.push.ensures.items ∙ ap (λ r. cond (is_ok r) (before ++ c.call-of.result ∷ []) before) c.in-ok-push.was in
+    let items = c.push.ensures.items ∙ ap (λ r. cond (is_ok r) (before ++ c.call_of.result ∷ []) before) c.in_ok-push.was in
     ap (λ xs. map whole xs ++ rest) items
-    ∙ ap (λ xs. xs ++ rest) (map_push whole before c.call-of.result)
-    ∙ append_assoc (map whole before) (whole c.call-of.result ∷ []) rest
-    ∙ ap (λ x. map whole before ++ x ∷ rest) (c.call-of.ensures ∙ ap (λ s. command_call s (with_names (λ x. x.now) (get_or steps i no_step).command)) c.sheet-at.ensures)
+    ∙ ap (λ xs. xs ++ rest) (map_push whole before c.call_of.result)
+    ∙ append_assoc (map whole before) (whole c.call_of.result ∷ []) rest
+    ∙ ap (λ x. map whole before ++ x ∷ rest) (c.call_of.ensures ∙ ap (λ s. command_call s (with_names (λ x. x.now) (get_or steps i no_step).command)) c.sheet_at.ensures)
     ∙ ap (λ xs. map whole before ++ xs) (sym (calls_more sheets steps i no_step c.loop-place-test.true))
     ∙ c.loop-place.invariant
 

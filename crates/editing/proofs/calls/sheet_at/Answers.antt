@@ -5,7 +5,7 @@ use Rattle.editing.proofs.calls.sheet_at.Goals as goal
 pub returns-then-place-sheets : goal.returns-then-place-sheets
 returns-then-place-sheets c =
     let sheets = c.args.sheets.now in
-    c.as-slice.ensures.value ∙ ap vec_items c.index-sheets-place.is ∙ sym (get_or-map vec_items sheets c.args.place c.index-sheets-place.result [] c.if-place-sheets.true)
+    c.as_slice.ensures.value ∙ ap vec_items c.index-sheets-place.is ∙ sym (get_or-map vec_items sheets c.args.place c.index-sheets-place.result [] c.if-place-sheets.true)
 
 pub returns-else-place-sheets : goal.returns-else-place-sheets
 returns-else-place-sheets c =

@@ -5,13 +5,13 @@ use Rattle.gaps.proofs.search.search_gap.Given as goal
 
 -- nothing is found so far, so what remains to be searched decides
 abbrev pub invariant-search : goal.invariant-search
-invariant-search l = (l.gap ≡ None) × (first_gap l.counts l.table.states ≡ from_vehicle l.counts l.table.states (l.vehicles-passed + 1))
+invariant-search l = (l.gap ≡ None) × (first_gap l.counts l.table.states ≡ from_vehicle l.counts l.table.states (l.vehicles_passed + 1))
 
-abbrev pub invariant-loop-times-passed : goal.invariant-loop-times-passed
-invariant-loop-times-passed l = (l.gap ≡ None) × (first_gap l.counts l.table.states ≡ from_time l.counts l.table.states l.vehicle (l.times-passed + 1))
+abbrev pub invariant-loop-times_passed : goal.invariant-loop-times_passed
+invariant-loop-times_passed l = (l.gap ≡ None) × (first_gap l.counts l.table.states ≡ from_time l.counts l.table.states l.vehicle (l.times_passed + 1))
 
-abbrev pub invariant-loop-locations-passed : goal.invariant-loop-locations-passed
-invariant-loop-locations-passed l = (l.gap ≡ None) × (first_gap l.counts l.table.states ≡ from_location l.counts l.table.states l.vehicle l.time (l.locations-passed + 1))
+abbrev pub invariant-loop-locations_passed : goal.invariant-loop-locations_passed
+invariant-loop-locations_passed l = (l.gap ≡ None) × (first_gap l.counts l.table.states ≡ from_location l.counts l.table.states l.vehicle l.time (l.locations_passed + 1))
 
-abbrev pub invariant-loop-users-passed : goal.invariant-loop-users-passed
-invariant-loop-users-passed l = (l.gap ≡ None) × (first_gap l.counts l.table.states ≡ from_user l.counts l.table.states l.vehicle l.time l.location (l.users-passed + 1))
+abbrev pub invariant-loop-users_passed : goal.invariant-loop-users_passed
+invariant-loop-users_passed l = (l.gap ≡ None) × (first_gap l.counts l.table.states ≡ from_user l.counts l.table.states l.vehicle l.time l.location (l.users_passed + 1))

@@ -9,9 +9,9 @@ loop-call-init g c = rw (c.new-answers.ensures.items, c.new-book.ensures) runnin
 
 pub loop-call-preserved : goal.loop-call-preserved
 loop-call-preserved g c =
-    let items = c.in-ok-push.ensures.items in
-    let step = c.in-ok-answer.ensures in
-    rw items (running_next (asked g.V.Determinant.meaning g.T.Determinant.meaning g.L.Determinant.meaning g.U.Determinant.meaning) told c.args.calls.now c.loop-call.call-index c.call-item.result (vec_items c.loop-call.answers) c.in-ok-answer.field-0 c.loop-call.book.contents c.answer.new.book.contents c.loop-call-test.true c.call-item.is c.loop-call.invariant step)
+    let items = c.in_ok-push.ensures.items in
+    let step = c.in_ok-answer.ensures in
+    rw items (running_next (asked g.V.Determinant.meaning g.T.Determinant.meaning g.L.Determinant.meaning g.U.Determinant.meaning) told c.args.calls.now c.loop-call.call-index c.call-item.result (vec_items c.loop-call.answers) c.in_ok-answer.field-0 c.loop-call.book.contents c.answer.new.book.contents c.loop-call-test.true c.call-item.is c.loop-call.invariant step)
 
 pub returns : goal.returns
 returns g c =

@@ -4,5 +4,5 @@ use Rattle.script.proofs.commands.next_verb.Goals as goal
 
 pub returns : goal.returns
 returns c =
-    let word = c.in-ok-next-word.ensures in
-    field_read verb_of _ _ _ _ word.value word.after c.from-word.ensures
+    let word = c.in_ok-next_word.ensures in
+    field_read verb_of _ _ _ _ word.value word.after c.from_word.ensures

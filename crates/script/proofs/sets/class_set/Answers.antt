@@ -9,12 +9,12 @@ returns-then-same c =
     let value = empty_is c.args.word.now c.if-same.ensures in
     record { value = value; meaning = set_named c.args.word.now _ value }
 
-pub returns-in-err-item : goal.returns-in-err-item
-returns-in-err-item c =
-    let value : c.from-residual.result ≡ set_of c.args.word.now = c.from-residual.ensures ∙ union_stops c.loop-piece.set _ _ c.in-Some.ensures.value c.in-err-item.ensures ∙ c.loop-piece.invariant ∙ set_is c.args.word.now _ c.if-same.ensures c.new-items.ensures in
+pub returns-in_err-item : goal.returns-in_err-item
+returns-in_err-item c =
+    let value : c.from-residual.result ≡ set_of c.args.word.now = c.from-residual.ensures ∙ union_stops c.loop-piece.set _ _ c.in-Some.ensures.value c.in_err-item.ensures ∙ c.loop-piece.invariant ∙ set_is c.args.word.now _ c.if-same.ensures c.new-items.ensures in
     record { value = value; meaning = set_named c.args.word.now _ value }
 
 pub returns : goal.returns
 returns c =
-    let value = union_ends c.loop-piece.set _ c.in-default.ensures.value ∙ c.loop-piece.invariant ∙ set_is c.args.word.now _ c.if-same.ensures c.new-items.ensures in
+    let value = union_ends c.loop-piece.set _ c.in_default.ensures.value ∙ c.loop-piece.invariant ∙ set_is c.args.word.now _ c.if-same.ensures c.new-items.ensures in
     record { value = value; meaning = set_named c.args.word.now _ value }

@@ -11,7 +11,7 @@ returns c =
     let p = c.args.place in
     record {
       after =
-          ap (λ xs. take p space ++ (xs ++ drop (p + length bytes - p) (drop p space))) c.copy-from-slice.ensures.after
+          ap (λ xs. take p space ++ (xs ++ drop (p + length bytes - p) (drop p space))) c.copy_from_slice.ensures.after
           ∙ ap (λ xs. take p space ++ (bytes ++ xs)) (drop-drop (p + length bytes - p) p space ∙ ap (λ n. drop n space) (omega arith));
       place = refl;
     }

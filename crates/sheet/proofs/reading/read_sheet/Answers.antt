@@ -25,11 +25,11 @@ taken c =
     let behind : length rest ≡ length bytes - (place + 1) = ap length (take_rest bytes (place + 1)) ∙ length-drop (place + 1) bytes in
     record { none = q.0; size = q.1; within = omega (arith, whole, behind, q.1, c.loop-place-test.true) }
 
-pub overflow-add-place-in-Ok : goal.overflow-add-place-in-Ok
-overflow-add-place-in-Ok c = let within = (taken c).within in search rules
+pub overflow_add-place-in-Ok : goal.overflow_add-place-in-Ok
+overflow_add-place-in-Ok c = let within = (taken c).within in search rules
 
-pub overflow-add-place-in-Ok-2 : goal.overflow-add-place-in-Ok-2
-overflow-add-place-in-Ok-2 c = let within = (taken c).within in search rules
+pub overflow_add-place-in-Ok-2 : goal.overflow_add-place-in-Ok-2
+overflow_add-place-in-Ok-2 c = let within = (taken c).within in search rules
 
 pub loop-place-preserved : goal.loop-place-preserved
 loop-place-preserved c =
@@ -40,7 +40,7 @@ loop-place-preserved c =
     let rest = take (length bytes - (place + 1)) (drop (place + 1) bytes) in
     let t = taken c in
     let next = place + (1 + c.in-Ok.length) in
-    let after : c.take-record.new.self ≡ kind_taken d (kind_coded code) rest = c.in-Ok.ensures.after ∙ ap (λ w. left_by w d (kind_taken d (kind_coded code) rest)) t.none in (
+    let after : c.take_record.new.self ≡ kind_taken d (kind_coded code) rest = c.in-Ok.ensures.after ∙ ap (λ w. left_by w d (kind_taken d (kind_coded code) rest)) t.none in (
       t.within,
       ap (λ x. read_on x next 0 (drop next bytes)) after
           ∙ sym (read_taken d bytes place c.loop-place-test.true code rest refl (take_rest bytes (place + 1)) t.none c.in-Ok.length (sym t.size))

@@ -3,4 +3,4 @@ use Rattle.sheet.proofs.Lengths.{length_sheet}
 use Rattle.sheet.proofs.writing.sheet_length.Goals as goal
 
 pub returns : goal.returns
-returns c = omega (arith, length_sheet c.args.contents.now, c.table-length.ensures.value, c.table-length-2.ensures.value)
+returns c = omega (arith, length_sheet c.args.contents.now, c.table_length.ensures.value, c.table_length-2.ensures.value)

@@ -11,7 +11,7 @@ loop-entry-preserved g c =
     let table = c.args.table.now in
     let x = c.entry-item.result in
     let more = ap length (table_more bytes (i + 1) i table x c.loop-entry-test.true c.entry-item.is) ∙ length-append (bytes x (i + 1)) (table_bytes bytes (i + 1 + 1) (drop (i + 1) table)) in
-    (omega (arith, c.loop-entry.invariant.0, c.record-length-total.ensures.bound), omega (arith, more, c.loop-entry.invariant.1, c.record-length-total.ensures.size (i + 1)))
+    (omega (arith, c.loop-entry.invariant.0, c.record_length-total.ensures.bound), omega (arith, more, c.loop-entry.invariant.1, c.record_length-total.ensures.size (i + 1)))
 
 pub returns : goal.returns
 returns g c =

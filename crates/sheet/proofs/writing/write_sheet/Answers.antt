@@ -10,23 +10,23 @@ use Rattle.sheet.proofs.Bytes.{written_then}
 use Rattle.sheet.proofs.Lengths.{length_sheet, write_taken}
 use Rattle.sheet.proofs.writing.write_sheet.Goals as goal
 
-pub write-opening-place-requires : goal.write-opening-place-requires
-write-opening-place-requires c = omega (arith, length_sheet c.args.contents.now, c.sheet-length.ensures, c.if-space-sheet-length.false)
+pub write_opening-place-requires : goal.write_opening-place-requires
+write_opening-place-requires c = omega (arith, length_sheet c.args.contents.now, c.sheet_length.ensures, c.if-space-sheet_length.false)
 
-pub write-table-place-requires : goal.write-table-place-requires
-write-table-place-requires c =
+pub write_table-place-requires : goal.write_table-place-requires
+write_table-place-requires c =
     let size = length_sheet c.args.contents.now in
-    (search rules, (search rules, omega (arith, size, c.sheet-length.ensures, c.if-space-sheet-length.false, c.write-opening-place.ensures.value, c.write-opening-place.auto.space)))
+    (search rules, (search rules, omega (arith, size, c.sheet_length.ensures, c.if-space-sheet_length.false, c.write_opening-place.ensures.value, c.write_opening-place.auto.space)))
 
-pub write-table-place-requires-2 : goal.write-table-place-requires-2
-write-table-place-requires-2 c =
+pub write_table-place-requires-2 : goal.write_table-place-requires-2
+write_table-place-requires-2 c =
     let size = length_sheet c.args.contents.now in
-    (search rules, (search rules, omega (arith, size, c.sheet-length.ensures, c.if-space-sheet-length.false, c.write-opening-place.ensures.value, c.write-opening-place.auto.space, c.write-table-place.ensures.value, c.write-table-place.auto.space)))
+    (search rules, (search rules, omega (arith, size, c.sheet_length.ensures, c.if-space-sheet_length.false, c.write_opening-place.ensures.value, c.write_opening-place.auto.space, c.write_table-place.ensures.value, c.write_table-place.auto.space)))
 
 pub put-requires : goal.put-requires
 put-requires c =
     let size = length_sheet c.args.contents.now in
-    omega (arith, size, c.sheet-length.ensures, c.if-space-sheet-length.false, c.write-opening-place.ensures.value, c.write-opening-place.auto.space, c.write-table-place.ensures.value, c.write-table-place.auto.space, c.write-table-place-2.ensures.value, c.write-table-place-2.auto.space)
+    omega (arith, size, c.sheet_length.ensures, c.if-space-sheet_length.false, c.write_opening-place.ensures.value, c.write_opening-place.auto.space, c.write_table-place.ensures.value, c.write_table-place.auto.space, c.write_table-place-2.ensures.value, c.write_table-place-2.auto.space)
 
 pub returns : goal.returns
 unfolding sheet_of
@@ -36,18 +36,18 @@ returns c =
     let tariffs = table_bytes tariff_bytes 1 b.tariffs in
     let lines = table_bytes line_bytes 1 b.lines.states in
     let size = length_sheet b in
-    let room : length (sheet_of b) ≤ length c.args.space.now = omega (arith, c.sheet-length.ensures, c.if-space-sheet-length.false) in
-    let place-1 = c.write-opening-place.ensures.value in
-    let place-2 : c.write-table-place.result ≡ c.write-opening-place.result + length tariffs = c.write-table-place.ensures.value in
-    let place-3 : c.write-table-place-2.result ≡ c.write-table-place.result + length lines = c.write-table-place-2.ensures.value in
+    let room : length (sheet_of b) ≤ length c.args.space.now = omega (arith, c.sheet_length.ensures, c.if-space-sheet_length.false) in
+    let place-1 = c.write_opening-place.ensures.value in
+    let place-2 : c.write_table-place.result ≡ c.write_opening-place.result + length tariffs = c.write_table-place.ensures.value in
+    let place-3 : c.write_table-place-2.result ≡ c.write_table-place.result + length lines = c.write_table-place-2.ensures.value in
     let after_lines = length-append lines end_record in
     let after_tariffs = length-append tariffs (lines ++ end_record) in
-    let kept-1 = c.write-opening-place.auto.space in
-    let kept-2 = c.write-table-place.auto.space in
-    let from_lines = written_then c.write-table-place.result c.write-table-place-2.result (length lines) 1 lines end_record c.write-table-place.new.space c.write-table-place-2.new.space c.put.new.space refl refl c.write-table-place-2.ensures.after c.put.ensures.after place-3 (omega (arith, size, room, place-1, place-2, kept-1, kept-2)) in
-    let from_tariffs = written_then c.write-opening-place.result c.write-table-place.result (length tariffs) (length (lines ++ end_record)) tariffs (lines ++ end_record) c.write-opening-place.new.space c.write-table-place.new.space c.put.new.space refl refl c.write-table-place.ensures.after from_lines place-2 (omega (arith, size, room, place-1, after_lines, kept-1)) in
-    let whole = written_then 0 c.write-opening-place.result 6 (length (tariffs ++ (lines ++ end_record))) opening (tariffs ++ (lines ++ end_record)) c.args.space.now c.write-opening-place.new.space c.put.new.space refl refl c.write-opening-place.ensures.after from_tariffs place-1 (omega (arith, size, room, after_lines, after_tariffs)) in
-    let none = write_taken b (length c.args.space.now) c.in-default.not-Blank room in
+    let kept-1 = c.write_opening-place.auto.space in
+    let kept-2 = c.write_table-place.auto.space in
+    let from_lines = written_then c.write_table-place.result c.write_table-place-2.result (length lines) 1 lines end_record c.write_table-place.new.space c.write_table-place-2.new.space c.put.new.space refl refl c.write_table-place-2.ensures.after c.put.ensures.after place-3 (omega (arith, size, room, place-1, place-2, kept-1, kept-2)) in
+    let from_tariffs = written_then c.write_opening-place.result c.write_table-place.result (length tariffs) (length (lines ++ end_record)) tariffs (lines ++ end_record) c.write_opening-place.new.space c.write_table-place.new.space c.put.new.space refl refl c.write_table-place.ensures.after from_lines place-2 (omega (arith, size, room, place-1, after_lines, kept-1)) in
+    let whole = written_then 0 c.write_opening-place.result 6 (length (tariffs ++ (lines ++ end_record))) opening (tariffs ++ (lines ++ end_record)) c.args.space.now c.write_opening-place.new.space c.put.new.space refl refl c.write_opening-place.ensures.after from_tariffs place-1 (omega (arith, size, room, after_lines, after_tariffs)) in
+    let none = write_taken b (length c.args.space.now) c.in_default.not-Blank room in
     let answer_length : c.put.result ≡ length (sheet_of b) = omega (arith, size, place-1, place-2, place-3, c.put.ensures.place) in
     record {
       answer = ap accepted answer_length ∙ sym (ap (λ w. answered w (length (sheet_of b))) none);

@@ -20,8 +20,8 @@ write-place-requires g c =
     let part = part_length c.loop-passed.space c.loop-passed.place in
     (omega (arith, c.requires.0, c.loop-passed-test.true), omega (arith, more, part, c.loop-passed.invariant.0, c.requires.1.1, c.loop-passed.auto.space))
 
-pub overflow-add-place : goal.overflow-add-place
-overflow-add-place g c =
+pub overflow_add-place : goal.overflow_add-place
+overflow_add-place g c =
     let more = left_to_write g.T.Listed.bytes c.loop-passed.passed c.args.table.now c.index-table-passed.result c.loop-passed-test.true c.index-table-passed.is in
     let inv = c.loop-passed.invariant.0 in
     let value = c.write-place.ensures.value in

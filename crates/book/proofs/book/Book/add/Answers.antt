@@ -3,8 +3,8 @@ use Rattle.book.proofs.Left.{add_left}
 use Rattle.book.proofs.Refusing.{add_overlap}
 use Rattle.book.proofs.book.Book.add.Goals as goal
 
-pub invariant-of-self : goal.invariant-of-self
-invariant-of-self c = (search (add_left), tt)
+pub invariant_of-self : goal.invariant_of-self
+invariant_of-self c = (search (add_left), tt)
 
 pub returns : goal.returns
 returns c = record {

@@ -3,8 +3,8 @@ use Rattle.book.proofs.Left.{issue_left}
 use Rattle.book.proofs.Refusing.{issue_gap, issue_whole}
 use Rattle.book.proofs.book.Book.issue.Goals as goal
 
-pub invariant-of-self : goal.invariant-of-self
-invariant-of-self c = (search (issue_left), tt)
+pub invariant_of-self : goal.invariant_of-self
+invariant_of-self c = (search (issue_left), tt)
 
 pub returns : goal.returns
 returns c = record {

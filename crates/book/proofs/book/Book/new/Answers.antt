@@ -1,5 +1,5 @@
 use Rattle.book.proofs.Keeps.{new_sound}
 use Rattle.book.proofs.book.Book.new.Goals as goal
 
-pub invariant-of-result : goal.invariant-of-result
-invariant-of-result c = (rw c.new.ensures (∣ new_sound ∣₁), tt)
+pub invariant_of-result : goal.invariant_of-result
+invariant_of-result c = (rw c.new.ensures (∣ new_sound ∣₁), tt)

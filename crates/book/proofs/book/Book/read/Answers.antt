@@ -8,8 +8,8 @@ pub returns : goal.returns
 returns c =
     let bytes = c.args.bytes.now in
     let small = All-from_get_or (λ x. x < 256) bytes 0 (λ i within. omega (arith, c.type-inv.bytes i)) in
-    let answer = c.take-sheet.ensures.answer in
-    let after = c.take-sheet.ensures.after in
+    let answer = c.take_sheet.ensures.answer in
+    let after = c.take_sheet.ensures.after in
     record {
       answer = answer;
       after = after;

@@ -6,8 +6,8 @@ use Rattle.sheet.specs.Writing.{tariff_bytes}
 use Rattle.sheet.proofs.Lengths.{length_tariff_record, written_nothing}
 use Rattle.sheet.proofs.writing.OptionTariffListed.write.Goals as goal
 
-pub write-tariff-requires : goal.write-tariff-requires
-write-tariff-requires c =
+pub write_tariff-requires : goal.write_tariff-requires
+write_tariff-requires c =
     let size : length (tariff_bytes c.args.self.now c.args.number) ≡ 31 = ap (λ s. length (tariff_bytes s c.args.number)) c.in-Some.is ∙ length_tariff_record c.args.number (numbers_of c.in-Some.tariff) in
     omega (arith, size, c.requires.1)
 
@@ -16,8 +16,8 @@ returns-in-Some c =
     let n = c.args.number in
     let same : tariff_bytes c.args.self.now n ≡ tariff_record n c.terms.result = ap (λ s. tariff_bytes s n) c.in-Some.is ∙ ap (tariff_record n) (sym c.terms.ensures) in
     record {
-      after = c.write-tariff.ensures.after ∙ ap (λ bytes. written 0 bytes c.args.space.now) (sym same);
-      value = c.write-tariff.ensures.value ∙ sym (ap length same ∙ length_tariff_record n c.terms.result);
+      after = c.write_tariff.ensures.after ∙ ap (λ bytes. written 0 bytes c.args.space.now) (sym same);
+      value = c.write_tariff.ensures.value ∙ sym (ap length same ∙ length_tariff_record n c.terms.result);
     }
 
 pub returns-in-None : goal.returns-in-None
