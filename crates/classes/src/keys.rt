@@ -1,9 +1,9 @@
 // Keys in an order, and the two keys of a usage: its charge object and its contract.
 ghost use Rattle.std.specs.Prelude.{◌≡◌, ℕ, Bool, true, false, List};
-ghost use Rattle.std.proofs.Common.{ap, rules};
+ghost use Rattle.std.proofs.Common.{ap};
 ghost use Rattle.classes.specs.declared.usage.Usage.{Usage};
 ghost use Rattle.classes.specs.Keys.{object_upto, object_key, byte_before, contract_upto, contract_key};
-ghost use Rattle.classes.specs.Orders.{bytes_total, bytes_same, bytes_carries};
+ghost use Rattle.classes.specs.Orders.{object_total, object_same, object_carries, bytes_total, bytes_same, bytes_carries};
 ghost use Rattle.classes.specs.declared.keys.ContractKey.{ContractKey};
 
 use crate::usage::Usage;
@@ -43,11 +43,11 @@ pub struct ObjectKey {
 impl Key for ObjectKey {
     ghost upto = { object_upto };
 
-    ghost total = { Prim.search rules };
+    ghost total = { object_total };
 
-    ghost same = { Prim.search rules };
+    ghost same = { object_same };
 
-    ghost carries = { Prim.search rules };
+    ghost carries = { object_carries };
 
     fn not_after(&self, other: &ObjectKey) -> bool {
         if self.partition == other.partition {

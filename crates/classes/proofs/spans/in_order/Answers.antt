@@ -1,4 +1,4 @@
-use Rattle.std.proofs.Common.{true, sym, refl, ap, ◌∙◌}
+use Rattle.std.proofs.Common.{sym, refl, ap, ◌∙◌}
 use Rattle.std.proofs.lemmas.List.{drop_all}
 use Rattle.std.proofs.lemmas.Bool.{false≢true}
 use Rattle.classes.specs.Spans.{spans_ordered_from}
