@@ -50,7 +50,7 @@ impl LineTable {
 
     // The lowest number of which the question holds.
     fn lowest<Q: Question>(&self, question: &Q) -> Option<u16>
-        ensures { result ≡ first_number (holds question.now) 1 self.now.states }
+        ensures { result ≡ first_number (Q.holds question.now) 1 self.now.states }
     {
         let states: &[LineState] = &self.states;
         for (place, state) in states.iter().enumerate() {
