@@ -1,7 +1,7 @@
 -- From an answer to its refusal, and from a refusal to the test that failed.
 use Rattle.std.proofs.Common.{◌≡◌, ℕ, Bool, true, false, List, [], Some, None, Option, refl, ap, arith}
 use Rattle.classes.specs.declared.refusal.Classes.{Classes}
-use Rattle.classes.specs.Outcomes.{Outcome, accepted, refusal}
+use Rattle.classes.specs.Outcomes.{accepted, refusal}
 use Rattle.contents.specs.Calls.{Refused, unless, answered, gap_with}
 
 pub answered_refused : {A : Type 0} (r : Option Refused) (x : A) (y : Refused) → answered r x ≡ refusal y → r ≡ Some y

@@ -1,5 +1,5 @@
 -- What the first gap means: it is unclaimed, and every earlier combination is claimed.
-use Rattle.std.proofs.Common.{◌≡◌, ℕ, zero, suc, ◌+◌, ◌-◌, ◌<◌, ◌≤◌, Bool, true, false, ◌⊎◌, List, [], ◌∷◌, get_or, Some, None, Option, sym, refl, ◌∙◌, subst, ⊎_elim, arith, MatchOption}
+use Rattle.std.proofs.Common.{◌≡◌, ℕ, zero, suc, ◌+◌, ◌-◌, ◌<◌, ◌≤◌, Bool, true, false, List, [], ◌∷◌, get_or, Some, None, Option, sym, refl, ◌∙◌, subst, ⊎_elim, arith, MatchOption}
 use Rattle.std.proofs.lemmas.Bool.{both_ways, cases_order, cases_eq, eq-eqb, ne_eqb, or_cases, or_left, or_right, false≢true}
 use Rattle.classes.specs.declared.refusal.Classes.{Classes}
 use Rattle.lines.specs.declared.sets.Counts.{Counts}

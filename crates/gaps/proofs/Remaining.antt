@@ -7,7 +7,7 @@ use Rattle.lines.specs.declared.sets.Counts.{Counts}
 use Rattle.lines.specs.declared.states.LineState.{LineState}
 use Rattle.lines.specs.declared.states.LineState.TheVariants.{Free, Live, Withdrawn}
 use Rattle.lines.specs.Sets.{has_class, union}
-use Rattle.lines.specs.Lines.{claims, state_claims}
+use Rattle.lines.specs.Lines.{state_claims}
 use Rattle.gaps.specs.Gaps.{claimed, kept, users_of, users_with, or_else, first_class_of, gap_at, gap_in_location, gap_in_time, gap_in_vehicle, first_gap}
 use Rattle.lines.proofs.Bits.{has_union, has_none}
 

@@ -1,8 +1,8 @@
 -- A number read digit by digit: it is given up as soon as it is too large, since more digits only make it larger.
-use Rattle.std.proofs.Common.{◌≡◌, ℕ, ◌+◌, ◌-◌, ◌*◌, ◌<◌, ◌≤◌, Bool, true, false, cond, ◌&&◌, eqb, leb, List, [], ◌∷◌, length, get_or, drop, Some, None, Option, sym, refl, ◌∙◌, arith}
+use Rattle.std.proofs.Common.{◌≡◌, ℕ, ◌+◌, ◌-◌, ◌*◌, ◌<◌, ◌≤◌, Bool, true, false, cond, ◌&&◌, eqb, leb, List, [], ◌∷◌, length, get_or, drop, Some, None, Option, sym, refl, arith}
 use Rattle.std.proofs.lemmas.List.{drop_more, drop_all}
 use Rattle.std.proofs.lemmas.Bool.{le-leb, lt-leb, and_right, cond-false}
-use Rattle.script.specs.Numbers.{is_digit, digit_of, digits_only, value_behind, number_of}
+use Rattle.script.specs.Numbers.{digit_of, digits_only, value_behind, number_of}
 
 -- what the digits that are left give behind a number
 abbrev pub read_on : ℕ → ℕ → List ℕ → Option ℕ

@@ -1,13 +1,13 @@
 -- The classes of a set are those that an item of its word names.
-use Rattle.std.proofs.Common.{◌≡◌, ℕ, zero, suc, ◌+◌, ◌-◌, ◌*◌, ◌/◌, ◌%◌, ◌^◌, ◌<◌, ◌≤◌, Bool, true, false, cond, ◌&&◌, ◌||◌, eqb, ltb, leb, List, [], ◌∷◌, IfSome, Some, None, Option, sym, refl, ap, ◌∙◌, ⊎_elim, one-mul, arith, pow-add}
+use Rattle.std.proofs.Common.{◌≡◌, ℕ, zero, suc, ◌+◌, ◌-◌, ◌*◌, ◌/◌, ◌%◌, ◌^◌, ◌<◌, ◌≤◌, Bool, true, false, ◌&&◌, ◌||◌, eqb, ltb, leb, List, [], ◌∷◌, IfSome, Some, None, Option, sym, refl, ap, ◌∙◌, ⊎_elim, one-mul, arith, pow-add}
 use lib.Pow.{pow-lt, shl-shr}
 use Rattle.std.proofs.lemmas.Nat.{pow_pos, div_below, mod-mul-add}
 use Rattle.std.proofs.lemmas.Bool.{cases_Bool, cases_eq, cases_order, and_parts, and_from, leb-true, le-leb, eq-eqb, ne_eqb, cond_both}
 use Rattle.std.proofs.lemmas.Bool.Decides.{nat_tests}
 use Rattle.lines.specs.declared.sets.ClassSet.{ClassSet}
-use Rattle.lines.specs.Sets.{has_class, union}
+use Rattle.lines.specs.Sets.{has_class}
 use Rattle.lines.proofs.Bits.{class_parts, has_union, has_none}
-use Rattle.script.specs.Numbers.{digits_only, value_behind, number_of}
+use Rattle.script.specs.Numbers.{value_behind}
 use Rattle.script.specs.Pieces.{pieces}
 use Rattle.script.specs.Sets.{no_classes, single, run, from_one, class_of, ends_of, ends_between, item_ends, range_of, both, union_from, items_of, set_of, between_ends, named, Named}
 use Rattle.script.proofs.Runs.{union_none}

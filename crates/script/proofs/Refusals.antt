@@ -1,11 +1,11 @@
 -- The first line that is not sound, by places.
-use Rattle.std.proofs.Common.{◌≡◌, ℕ, zero, suc, ◌+◌, ◌-◌, ◌<◌, ◌≤◌, Bool, true, false, cond, List, [], ◌∷◌, length, get_or, Some, None, Ok, Err, Option, sym, refl, ap, ◌∙◌, subst, arith}
+use Rattle.std.proofs.Common.{◌≡◌, ℕ, zero, suc, ◌+◌, ◌-◌, ◌<◌, ◌≤◌, Bool, true, false, cond, List, [], ◌∷◌, length, get_or, Some, None, Ok, Err, Option, refl, ap, ◌∙◌, arith}
 use Rattle.script.specs.declared.scripts.ScriptError.{ScriptError}
 use Rattle.script.specs.declared.scripts.ScriptError.TheVariants.{Refused, NoMemory}
 use Rattle.script.specs.declared.scripts.Step.{Step}
 use Rattle.script.specs.Fields.{Word}
 use Rattle.script.specs.Pieces.{pieces}
-use Rattle.script.specs.Scripts.{is_sound, first_unsound, unless_refused, steps_from, script_of, Failed, FirstUnsound, ErrorMeaning}
+use Rattle.script.specs.Scripts.{is_sound, first_unsound, unless_refused, script_of, Failed, ErrorMeaning}
 
 -- every line is sound
 abbrev AllSound : List (List ℕ) → Type 0

@@ -1,5 +1,5 @@
 -- A text cut at a byte. There is one piece more than separators, and pieces may be empty; words are the pieces that are not.
-use Rattle.std.specs.Prelude.{ℕ, Bool, true, false, cond, not, List, [], ◌∷◌, Some, None, Option, ◌==◌}
+use Rattle.std.specs.Prelude.{ℕ, Bool, cond, not, List, [], ◌∷◌, Some, None, Option, ◌==◌}
 use Rattle.script.specs.declared.pieces.Pieces.{Pieces}
 
 -- a byte is not the separator

@@ -1,4 +1,4 @@
-use Rattle.std.proofs.Common.{◌≡◌, ◌+◌, ◌*◌, ◌<◌, drop, sym, ap, ◌∙◌, arith, rules}
+use Rattle.std.proofs.Common.{◌≡◌, ◌+◌, ◌*◌, ◌<◌, drop, sym, ap, ◌∙◌, arith}
 use Rattle.std.proofs.lemmas.Option.{MatchOption-from_none}
 use Rattle.script.proofs.Digits.{read_on, number_is, too_large, digit_next, no_digit, digits_end}
 use Rattle.script.proofs.numbers.number.Goals as goal
@@ -12,8 +12,8 @@ next c =
 
 pub returns-in_err-digit : goal.returns-in_err-digit
 returns-in_err-digit c = record {
-  value = c.from-residual.ensures ∙ no_digit c.args.most c.loop-byte.value _ _ c.loop-byte-test.true c.in_err-digit.ensures ∙ c.loop-byte.invariant.1 ∙ number_is _ _ c.if-is_empty.ensures;
-  bound = MatchOption-from_none _ _ c.from-residual.ensures;
+  value = c.from_residual.ensures ∙ no_digit c.args.most c.loop-byte.value _ _ c.loop-byte-test.true c.in_err-digit.ensures ∙ c.loop-byte.invariant.1 ∙ number_is _ _ c.if-is_empty.ensures;
+  bound = MatchOption-from_none _ _ c.from_residual.ensures;
 }
 
 pub returns-then-value-from : goal.returns-then-value-from

@@ -11,7 +11,7 @@ returns-then-same c =
 
 pub returns-in_err-item : goal.returns-in_err-item
 returns-in_err-item c =
-    let value : c.from-residual.result ≡ set_of c.args.word.now = c.from-residual.ensures ∙ union_stops c.loop-piece.set _ _ c.in-Some.ensures.value c.in_err-item.ensures ∙ c.loop-piece.invariant ∙ set_is c.args.word.now _ c.if-same.ensures c.new-items.ensures in
+    let value : c.from_residual.result ≡ set_of c.args.word.now = c.from_residual.ensures ∙ union_stops c.loop-piece.set _ _ c.in-Some.ensures.value c.in_err-item.ensures ∙ c.loop-piece.invariant ∙ set_is c.args.word.now _ c.if-same.ensures c.new-items.ensures in
     record { value = value; meaning = set_named c.args.word.now _ value }
 
 pub returns : goal.returns

@@ -14,7 +14,7 @@ more c =
 pub loop-class-preserved : goal.loop-class-preserved
 loop-class-preserved c = more (goal.at.loop-class-preserved c).After-union-set
 
-pub returns·2 : goal.returns·2
-returns·2 c =
+pub returns-2 : goal.returns-2
+returns-2 c =
     let last : c.loop-class.class ≡ c.args.high = omega arith in
-    more (goal.at.returns·2 c).After-union-set ∙ ap (λ k. run c.args.low (k + 1 - c.args.low)) last
+    more (goal.at.returns-2 c).After-union-set ∙ ap (λ k. run c.args.low (k + 1 - c.args.low)) last

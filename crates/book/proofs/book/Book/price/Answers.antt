@@ -7,7 +7,7 @@ use Rattle.book.proofs.book.Book.price.Goals as goal
 pub returns-in_err-classes : goal.returns-in_err-classes
 returns-in_err-classes g c =
     let d : Meanings = meanings (g.V.Determinant.meaning c.args.vehicle.now) (g.T.Determinant.meaning c.args.time.now) (g.L.Determinant.meaning c.args.location.now) (g.U.Determinant.meaning c.args.user.now) in
-    let p = err_from_is_err_and c.from-residual.result c.from-residual.ensures.1 in
+    let p = err_from_is_err_and c.from_residual.result c.from_residual.ensures.1 in
     rw (p.1, p.2) (record {
       answer = price_refused c.args.self.now.contents d c.args.usage.now _ c.in_err-classes.ensures;
       one = λ q e. absurd (let z : ◌≡◌ {A = ℕ} 0 1 = cc in omega (arith, z));

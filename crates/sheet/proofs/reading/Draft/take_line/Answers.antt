@@ -17,12 +17,12 @@ returns-in_err-add c =
     let body = c.args.body.now in
     let n = c.u16_at-number.result in
     let x = c.line_of.result in
-    let p = err_from_is_err_and c.from-residual.result c.from-residual.ensures.1 in
+    let p = err_from_is_err_and c.from_residual.result c.from_residual.ensures.1 in
     let q = c.in_err-add.ensures in
     let number : n ≡ body_number body = c.u16_at-number.ensures in
     let held = c.line_of.ensures in
     let is_due : above d.last_line (body_number body) ≡ true = ap (above d.last_line) (sym (number)) ∙ sym c.is_above.ensures ∙ c.if-not-is_above.false in
-    let w = call-refused (above d.last_line (body_number body)) (add_refusal d.contents n x) (add_refusal d.contents (body_number body) (body_line body)) _ d (body_taken d Line body) c.add.new.self (added n x d.contents) c.from-residual.result p.0 is_due (ap (λ m. add_refusal d.contents m x) number ∙ ap (add_refusal d.contents (body_number body)) held) q.answer q.after p.1 p.2 in
+    let w = call-refused (above d.last_line (body_number body)) (add_refusal d.contents n x) (add_refusal d.contents (body_number body) (body_line body)) _ d (body_taken d Line body) c.add.new.self (added n x d.contents) c.from_residual.result p.0 is_due (ap (λ m. add_refusal d.contents m x) number ∙ ap (add_refusal d.contents (body_number body)) held) q.answer q.after p.1 p.2 in
     record { answer = w.answer; after = w.after }
 
 pub returns : goal.returns

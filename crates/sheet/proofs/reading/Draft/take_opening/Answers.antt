@@ -12,7 +12,7 @@ returns-in_err-open c =
     let d = c.args.self.now in
     let body = c.args.body.now in
     let counts = c.counts_of.result in
-    let p = err_from_is_err_and c.from-residual.result c.from-residual.ensures.1 in
+    let p = err_from_is_err_and c.from_residual.result c.from_residual.ensures.1 in
     let q = c.in_err-open.ensures in
-    let w = call-refused true (open_refusal d.contents counts) (open_refusal d.contents (opening_counts body)) _ d (body_taken d Opening body) c.open.new.self (opened counts d.contents) c.from-residual.result p.0 refl (ap (open_refusal d.contents) c.counts_of.ensures) q.answer q.after p.1 p.2 in
+    let w = call-refused true (open_refusal d.contents counts) (open_refusal d.contents (opening_counts body)) _ d (body_taken d Opening body) c.open.new.self (opened counts d.contents) c.from_residual.result p.0 refl (ap (open_refusal d.contents) c.counts_of.ensures) q.answer q.after p.1 p.2 in
     record { answer = w.answer; after = w.after }

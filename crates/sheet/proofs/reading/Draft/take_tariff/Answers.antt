@@ -18,12 +18,12 @@ returns-in_err-put c =
     let body = c.args.body.now in
     let n = c.u8_at-number.result in
     let x = c.terms_of.result in
-    let p = err_from_is_err_and c.from-residual.result c.from-residual.ensures.1 in
+    let p = err_from_is_err_and c.from_residual.result c.from_residual.ensures.1 in
     let q = c.in_err-put.ensures in
     let number : n ≡ body_tariff body = c.u8_at-number.ensures in
     let held = c.terms_of.ensures in
     let is_due : above d.last_tariff (body_tariff body) ≡ true = ap (above d.last_tariff) (sym (c.from.ensures ∙ number)) ∙ sym c.is_above.ensures ∙ c.if-not-is_above.false in
-    let w = call-refused (above d.last_tariff (body_tariff body)) (put_refusal d.contents n x) (put_refusal d.contents (body_tariff body) (body_terms body)) _ d (body_taken d Tariff body) c.put.new.self (stored n (checked x) d.contents) c.from-residual.result p.0 is_due (ap (λ m. put_refusal d.contents m x) number ∙ ap (put_refusal d.contents (body_tariff body)) held) q.answer q.after p.1 p.2 in
+    let w = call-refused (above d.last_tariff (body_tariff body)) (put_refusal d.contents n x) (put_refusal d.contents (body_tariff body) (body_terms body)) _ d (body_taken d Tariff body) c.put.new.self (stored n (checked x) d.contents) c.from_residual.result p.0 is_due (ap (λ m. put_refusal d.contents m x) number ∙ ap (put_refusal d.contents (body_tariff body)) held) q.answer q.after p.1 p.2 in
     record { answer = w.answer; after = w.after }
 
 pub returns : goal.returns
