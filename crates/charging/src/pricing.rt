@@ -42,7 +42,7 @@ fn amounts_in_range(usage: &Usage) -> bool
 
 // Whether a determinant has the count that the book has.
 fn same_count<D: Determinant>(role: Role, determinant: &D, count: u8) -> Result<(), Refusal>
-    ensures { outcome result ≡ (if nat_eq (meaning determinant.now).count count then accepted tt else refusal (14, role_number role ∷ [])) }
+    ensures { outcome result ≡ (if nat_eq (D.meaning determinant.now).count count then accepted tt else refusal (14, role_number role ∷ [])) }
 {
     if determinant.count() == count {
         Ok(())

@@ -95,7 +95,7 @@ impl Listed for LineState {
 // The length of the records of a table.
 fn table_length<T: Listed>(table: &[T]) -> usize
     requires { length table.now ≤ 256 }
-    ensures value { result ≡ length (table_bytes bytes 1 table.now) }
+    ensures value { result ≡ length (table_bytes T.bytes 1 table.now) }
     ensures bound { result ≤ 36 * length table.now }
 {
     let mut total = 0;
@@ -107,9 +107,9 @@ fn table_length<T: Listed>(table: &[T]) -> usize
 
 // Writes the records of a table from a place on, and answers the place behind them.
 fn write_table<T: Listed>(table: &[T], space: &mut [u8], start: usize) -> usize
-    requires { (length table.now ≤ most) × ((length table.now ≤ 256) × (start + length (table_bytes bytes 1 table.now) ≤ length space.old)) }
-    ensures after { space.new ≡ written start (table_bytes bytes 1 table.now) space.old }
-    ensures value { result ≡ start + length (table_bytes bytes 1 table.now) }
+    requires { (length table.now ≤ T.most) × ((length table.now ≤ 256) × (start + length (table_bytes T.bytes 1 table.now) ≤ length space.old)) }
+    ensures after { space.new ≡ written start (table_bytes T.bytes 1 table.now) space.old }
+    ensures value { result ≡ start + length (table_bytes T.bytes 1 table.now) }
 {
     let mut place = start;
     for (passed, entry) in table.iter().enumerate() {
