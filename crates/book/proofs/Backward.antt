@@ -1,5 +1,5 @@
 -- The sheet of a sound book reads back: put and add take its tariffs and live lines in turn.
-use Rattle.std.proofs.Common.{◌≡◌, ℕ, zero, suc, ◌+◌, ◌-◌, ◌<◌, ◌≤◌, Bool, true, false, cond, not, ◌&&◌, eqb, leb, ◌≢◌, List, [], ◌∷◌, ◌++◌, map, length, get_or, drop, set, replicate, is_some, Some, None, Option, sym, refl, ap, ◌∙◌, subst, ⊎_elim, arith}
+use Rattle.std.proofs.Common.{◌≡◌, ℕ, zero, suc, ◌+◌, ◌-◌, ◌<◌, ◌≤◌, Bool, true, false, cond, not, ◌&&◌, eqb, leb, ◌≢◌, List, [], ◌∷◌, ◌++◌, length, get_or, drop, set, replicate, is_some, Some, None, Option, sym, refl, ap, ◌∙◌, subst, ⊎_elim, arith}
 use mathlib.Core.Bool.{Bool-set}
 use mathlib.Core.Logic.{∥∥₁_elim}
 use base.Stored.{Coded-set}
@@ -8,21 +8,21 @@ use Rattle.std.proofs.lemmas.Bool.{and_from, cases_eq, cases_lt, eq-eqb, ne_eqb,
 use Rattle.classes.specs.Outcomes.{Outcome, accepted, refusal}
 use Rattle.tariff.specs.declared.terms.Tariff.{Tariff}
 use Rattle.tariff.specs.declared.terms.Terms.{Terms}
-use Rattle.tariff.specs.Ranges.{checked, numbers_of, InRange}
+use Rattle.tariff.specs.Ranges.{checked, numbers_of}
 use Rattle.tariff.proofs.Ranges.{checked_again}
 use Rattle.lines.specs.declared.states.Line.{Line}
 use Rattle.lines.specs.declared.states.LineState.{LineState}
 use Rattle.lines.specs.declared.states.LineState.TheVariants.{Free, Live, Withdrawn}
 use Rattle.lines.specs.Sets.{counts_in_range}
-use Rattle.lines.specs.Lines.{line_fits, lines_meet, state_meets}
+use Rattle.lines.specs.Lines.{line_fits, state_meets}
 use Rattle.lines.specs.Tables.{state_at, first_overlap}
 use Rattle.lines.proofs.Numbers.{lowest_found}
 use Rattle.lines.proofs.Overlaps.{meet_overlap}
 use Rattle.contents.specs.declared.contents.Contents.{Contents}
 use Rattle.contents.specs.declared.contents.Phase.TheVariants.{Blank, Draft}
 use Rattle.contents.specs.contracts.contents.Contents.{the_row}
-use Rattle.contents.specs.Contents.{in_phase, new_contents, with_version, tariff_number, line_number, tariff_at, line_at}
-use Rattle.contents.specs.Calls.{Refused, unless, answered, is_free, overlap_with, overlap_refusal, open_refusal, opened, put_refusal, stored, add_refusal, added}
+use Rattle.contents.specs.Contents.{in_phase, tariff_number, line_number, tariff_at, line_at}
+use Rattle.contents.specs.Calls.{Refused, unless, answered, is_free, overlap_with, overlap_refusal, stored, added}
 use Rattle.contents.proofs.Refused.{answered_accepted, passed}
 use Rattle.sheet.specs.Acceptable.{tariff_records, line_records, RisingFrom, PutInTurn, AddedInTurn, Acceptable}
 use Rattle.sheet.specs.Reading.{sheet_outcome, sheet_contents, contents_in, refused_in}

@@ -1,12 +1,12 @@
 -- What is read from a sheet is sound: it is made by open, put and add.
-use Rattle.std.proofs.Common.{◌≡◌, ℕ, zero, suc, ◌+◌, Bool, true, false, leb, List, [], ◌∷◌, length, take, Some, None, Option, sym, refl, ap, ◌∙◌, subst, arith}
-use Rattle.std.proofs.lemmas.Bool.{both_ways, false≢true}
+use Rattle.std.proofs.Common.{◌≡◌, ℕ, true, false, List, [], None, sym, refl, ap, ◌∙◌, subst, arith}
+use Rattle.std.proofs.lemmas.Bool.{both_ways}
 use Rattle.classes.specs.Outcomes.{Outcome, accepted, refusal}
 use Rattle.lines.specs.declared.states.Line.{Line}
 use Rattle.contents.specs.declared.contents.Contents.{Contents}
 use Rattle.contents.specs.declared.contents.Phase.TheVariants.{Blank}
-use Rattle.contents.specs.Contents.{in_phase, new_contents, with_version}
-use Rattle.contents.specs.Calls.{Refused, unless, answered, settled, open_refusal, opened}
+use Rattle.contents.specs.Contents.{in_phase, with_version}
+use Rattle.contents.specs.Calls.{unless, answered, settled, opened}
 use Rattle.contents.proofs.Refused.{answered_accepted, passed}
 use Rattle.sheet.specs.Reading.{sheet_outcome, sheet_contents, contents_in, refused_in, read_refusal}
 use Rattle.sheet.specs.Acceptable.{Acceptable}

@@ -1,6 +1,5 @@
 -- Every accepted call leaves a sound book sound.
-use Rattle.std.proofs.Common.{◌≡◌, ℕ, ◌≤◌, Bool, true, false, ltb, ◌≢◌, ◌⊎◌, [], length, is_some, Some, None, Option, sym, refl, ◌∙◌, subst, inl, inr, ⊎_elim, arith, length-set}
-use mathlib.Core.Logic.{∥∥₁_map}
+use Rattle.std.proofs.Common.{◌≡◌, ℕ, ◌≤◌, true, false, ltb, ◌≢◌, ◌⊎◌, [], length, is_some, Some, None, Option, sym, refl, ◌∙◌, subst, inl, inr, ⊎_elim, arith, length-set}
 use lib.ListN.{length-replicate}
 use Rattle.std.proofs.lemmas.Bool.{both_ways, cases_eq, false≢true, true≢false}
 use Rattle.classes.specs.declared.refusal.Classes.{Classes}
@@ -23,7 +22,7 @@ use Rattle.contents.specs.declared.contents.Contents.{Contents}
 use Rattle.contents.specs.declared.contents.Phase.{Phase}
 use Rattle.contents.specs.declared.contents.Phase.TheVariants.{Blank, Draft, Issued}
 use Rattle.contents.specs.Contents.{in_phase, new_contents, tariff_at, line_at, line_number, tariff_number, with_line, with_tariff}
-use Rattle.contents.specs.Calls.{Refused, unless, settled, is_free, is_withdrawn, overlap_with, gap_with, overlap_refusal, open_refusal, opened, put_refusal, stored, add_refusal, added, withdraw_refusal, withdrawn, restore_refusal, restored, in_the_way, made_live, set_aside, given_up, strike_refusal, struck, issue_refusal, issued, reopen_refusal, reopened}
+use Rattle.contents.specs.Calls.{Refused, settled, is_free, is_withdrawn, overlap_with, overlap_refusal, open_refusal, opened, put_refusal, stored, add_refusal, added, withdraw_refusal, withdrawn, restore_refusal, restored, in_the_way, made_live, set_aside, given_up, strike_refusal, struck, issue_refusal, issued, reopen_refusal, reopened}
 use Rattle.contents.proofs.Refused.{passed, without_gap}
 use Rattle.book.specs.Sound.{Sound, Supported, AtMostOne}
 use Rattle.book.proofs.Places.{written_here, written_elsewhere, empty_number, number_range}

@@ -1,5 +1,5 @@
 -- What a refusal's number says: the tests before it were passed, and its values are what they are said to be.
-use Rattle.std.proofs.Common.{◌≡◌, ℕ, ◌+◌, Bool, true, false, ltb, List, [], ◌∷◌, is_some, Some, None, Option, refl, ap, subst, ⊎_elim, arith}
+use Rattle.std.proofs.Common.{◌≡◌, ℕ, ◌+◌, Bool, true, ltb, [], ◌∷◌, is_some, Some, None, Option, refl, ap, subst, ⊎_elim, arith}
 use mathlib.Core.Bool.{Bool-set}
 use mathlib.Core.Logic.{∥∥₁_elim}
 use Rattle.std.proofs.lemmas.Bool.{both_ways, cases_lt, false≢true}
@@ -19,7 +19,7 @@ use Rattle.contents.specs.declared.contents.Contents.{Contents}
 use Rattle.contents.specs.declared.contents.Phase.TheVariants.{Draft}
 use Rattle.contents.specs.Contents.{in_phase, tariff_at, line_at, line_number, tariff_number}
 use Rattle.contents.specs.Refusals.{gap_values}
-use Rattle.contents.specs.Calls.{Refused, unless, answered, is_free, is_withdrawn, overlap_with, gap_with, overlap_refusal, in_the_way, add_refusal, restore_refusal, issue_refusal}
+use Rattle.contents.specs.Calls.{answered, is_free, is_withdrawn, overlap_with, gap_with, overlap_refusal, in_the_way, add_refusal, restore_refusal, issue_refusal}
 use Rattle.book.specs.Laws.{LowestOverlap}
 use Rattle.book.specs.Sound.{Sound}
 use Rattle.contents.proofs.Refused.{answered_refused, answered_accepted, passed, same_refusal, behind, without_gap}

@@ -1,14 +1,13 @@
 -- An acceptable sheet is accepted: each of its records is read, and holds what it was made of.
-use Rattle.std.proofs.Common.{◌≡◌, ℕ, zero, suc, ◌+◌, ◌*◌, ◌^◌, ◌<◌, ◌≤◌, Bool, true, false, cond, ◌&&◌, eqb, ltb, leb, List, [], ◌∷◌, ◌++◌, length, take, drop, is_some, Some, None, Option, sym, refl, ap, ◌∙◌, subst, arith, pow_mono}
+use Rattle.std.proofs.Common.{◌≡◌, ℕ, ◌+◌, ◌*◌, ◌^◌, ◌<◌, ◌≤◌, true, ltb, leb, List, [], ◌∷◌, ◌++◌, length, take, is_some, Some, None, Option, sym, refl, ap, ◌∙◌, subst, arith, pow_mono}
 use Rattle.std.proofs.lemmas.List.{append_assoc, take_at, drop_at, length-append}
 use Rattle.std.proofs.lemmas.Bool.{and_parts, leb-true, ltb-true, lt-ltb, false≢true}
-use Rattle.classes.specs.Outcomes.{Outcome, accepted, refusal}
+use Rattle.classes.specs.Outcomes.{accepted}
 use Rattle.tariff.specs.declared.terms.Tariff.{Tariff}
 use Rattle.tariff.specs.declared.terms.Terms.{Terms}
 use Rattle.tariff.specs.Ranges.{checked}
 use Rattle.tariff.proofs.Ranges.{checked_exact}
 use Rattle.lines.specs.declared.sets.ClassSet.{ClassSet}
-use Rattle.lines.specs.declared.sets.Counts.{Counts}
 use Rattle.lines.specs.declared.states.Line.{Line}
 use Rattle.lines.specs.Sets.{set_fits, count_in_range, counts_in_range}
 use Rattle.lines.specs.Lines.{line_fits}
@@ -16,16 +15,15 @@ use Rattle.lines.proofs.Overlaps.{four}
 use Rattle.contents.specs.declared.contents.Contents.{Contents}
 use Rattle.contents.specs.declared.contents.Phase.TheVariants.{Blank, Draft as InDraft}
 use Rattle.contents.specs.Contents.{in_phase, new_contents, with_version, tariff_number, line_number, tariff_at, line_at}
-use Rattle.contents.specs.Calls.{Refused, unless, is_free, open_refusal, opened, put_refusal, stored, add_refusal, added, overlap_refusal}
+use Rattle.contents.specs.Calls.{unless, is_free, open_refusal, opened, put_refusal, stored, add_refusal, added, overlap_refusal}
 use Rattle.contents.proofs.Refused.{passed}
 use Rattle.sheet.specs.declared.records.Kind.{Kind}
 use Rattle.sheet.specs.declared.records.Kind.TheVariants.{Opening, Tariff as TariffKind, Line as LineKind, End}
 use Rattle.sheet.specs.declared.reading.Draft.{Draft}
-use Rattle.sheet.specs.declared.reading.Stage.{Stage}
-use Rattle.sheet.specs.declared.reading.Stage.TheVariants.{Start, Tariffs, Lines, Ended}
+use Rattle.sheet.specs.declared.reading.Stage.TheVariants.{Tariffs, Lines}
 use Rattle.sheet.specs.Acceptable.{tariff_records, line_records, RisingFrom, PutInTurn, AddedInTurn, Acceptable}
-use Rattle.sheet.specs.Records.{kind_coded, body_length, opening_record, tariff_record, line_record, end_record, opening_version, opening_counts, body_tariff, body_terms, body_number, body_line}
-use Rattle.sheet.specs.Reading.{not_ended, due, above, fields_refusal, body_refusal, body_taken, kind_taken, kind_length, record_refusal, placed_or, read_on, new_draft, sheet_outcome}
+use Rattle.sheet.specs.Records.{kind_coded, body_length, tariff_record, line_record, end_record, opening_counts}
+use Rattle.sheet.specs.Reading.{not_ended, due, above, fields_refusal, body_refusal, body_taken, kind_taken, kind_length, placed_or, read_on, new_draft, sheet_outcome}
 use Rattle.sheet.proofs.Codec.{TermsFit, LineFits, tariff_body, line_body, tariff_held, line_held}
 use Rattle.sheet.proofs.Drafts.{through}
 use Rattle.sheet.proofs.Lengths.{length_tariff_record, length_line_record}

@@ -1,11 +1,9 @@
 -- A record's body and what it holds are one: each gives the other back.
-use Rattle.std.proofs.Common.{◌≡◌, ℕ, suc, ◌+◌, ◌^◌, ◌<◌, ◌≤◌, List, [], ◌∷◌, ◌++◌, length, get_or, take, drop, sym, refl, ap, ◌∙◌, arith}
+use Rattle.std.proofs.Common.{◌≡◌, ℕ, ◌+◌, ◌^◌, ◌<◌, ◌≤◌, List, [], ◌∷◌, ◌++◌, length, get_or, take, drop, sym, ap, ◌∙◌, arith}
 use Rattle.std.specs.Int.Digits.{number_from_digits as number, AllBelowBase}
 use Rattle.std.proofs.ByRecursion.{All-take, All-drop}
 use Rattle.std.proofs.lemmas.List.{take_all, take-append-drop, drop-drop, drop_all, drop_more, length-take-le, length-drop}
 use Rattle.tariff.specs.declared.terms.Terms.{Terms}
-use Rattle.lines.specs.declared.sets.ClassSet.{ClassSet}
-use Rattle.lines.specs.declared.sets.Counts.{Counts}
 use Rattle.lines.specs.declared.states.Line.{Line}
 use Rattle.sheet.specs.Fields.{high_first, field_at}
 use Rattle.sheet.specs.Records.{opening_record, tariff_record, line_record, opening_version, opening_counts, body_tariff, body_terms, body_number, body_line}

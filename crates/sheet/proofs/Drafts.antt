@@ -1,7 +1,7 @@
 -- A record's body stands for a call: it is refused, or taken, as the call is.
-use Rattle.std.proofs.Common.{◌≡◌, ℕ, ◌≤◌, Bool, true, leb, List, [], ◌∷◌, length, take, Some, None, Err, Option, Result, sym, refl, ap, ◌∙◌}
+use Rattle.std.proofs.Common.{◌≡◌, ℕ, ◌≤◌, Bool, true, leb, List, [], ◌∷◌, length, take, Some, None, Err, Option, Result, sym, ap, ◌∙◌}
 use Rattle.std.proofs.lemmas.Bool.{le-leb}
-use Rattle.classes.specs.Outcomes.{Outcome, accepted, refusal}
+use Rattle.classes.specs.Outcomes.{accepted, refusal}
 use Rattle.contents.specs.declared.contents.Contents.{Contents}
 use Rattle.contents.specs.Calls.{Refused, unless, answered, settled}
 use Rattle.contents.proofs.Refused.{answered_refused, answered_accepted}

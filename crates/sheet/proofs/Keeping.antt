@@ -7,7 +7,7 @@ use Rattle.lines.specs.declared.sets.Counts.{Counts}
 use Rattle.lines.specs.declared.states.Line.{Line}
 use Rattle.contents.specs.declared.contents.Contents.{Contents}
 use Rattle.contents.specs.Contents.{new_contents, with_version}
-use Rattle.contents.specs.Calls.{Refused, unless, open_refusal, opened, put_refusal, stored, add_refusal, added}
+use Rattle.contents.specs.Calls.{Refused, open_refusal, opened, put_refusal, stored, add_refusal, added}
 use Rattle.contents.proofs.Refused.{passed}
 use Rattle.sheet.specs.declared.records.Kind.{Kind}
 use Rattle.sheet.specs.declared.records.Kind.TheVariants.{Opening, Tariff, Line as LineKind, End}

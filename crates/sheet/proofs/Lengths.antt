@@ -1,5 +1,5 @@
 -- How long records are, and writes of whole records.
-use Rattle.std.proofs.Common.{◌≡◌, ℕ, ◌+◌, ◌-◌, ◌<◌, ◌≤◌, leb, List, [], ◌∷◌, ◌++◌, length, get_or, take, drop, None, sym, refl, ap, ◌∙◌, arith}
+use Rattle.std.proofs.Common.{◌≡◌, ℕ, ◌+◌, ◌-◌, ◌<◌, ◌≤◌, leb, List, [], ◌++◌, length, get_or, take, drop, None, sym, refl, ap, ◌∙◌, arith}
 use borrow.Rule.Slice.PartMut.{put_mid}
 use Rattle.std.proofs.lemmas.List.{append-nil, take-append-drop, length-append, drop_more, drop_all, drop-drop}
 use Rattle.tariff.specs.declared.terms.Terms.{Terms}
@@ -10,8 +10,8 @@ use Rattle.contents.specs.declared.contents.Phase.{Phase}
 use Rattle.contents.specs.declared.contents.Phase.TheVariants.{Blank, Draft, Issued}
 use Rattle.contents.specs.Calls.{unless}
 use Rattle.std.proofs.lemmas.Bool.{le-leb}
-use Rattle.sheet.specs.Fields.{high_first, written}
-use Rattle.sheet.specs.Records.{opening_record, tariff_record, line_record, end_record}
+use Rattle.sheet.specs.Fields.{written}
+use Rattle.sheet.specs.Records.{tariff_record, line_record, end_record}
 use Rattle.sheet.proofs.Bytes.{length_high_first}
 
 pub length_tariff_record : (n : ℕ) (p : Terms) → length (tariff_record n p) ≡ 31

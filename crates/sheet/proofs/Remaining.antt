@@ -1,23 +1,23 @@
 -- What is left of a sheet at each stage of reading it, in the words of an acceptable sheet.
-use Rattle.std.proofs.Common.{◌≡◌, ℕ, zero, suc, ◌+◌, ◌<◌, ◌≤◌, Bool, true, false, cond, eqb, ltb, leb, List, [], ◌∷◌, ◌++◌, length, take, drop, Some, None, Option, sym, refl, ap, ◌∙◌, subst, arith}
+use Rattle.std.proofs.Common.{◌≡◌, ℕ, zero, suc, ◌+◌, ◌<◌, ◌≤◌, Bool, true, false, cond, eqb, leb, List, [], ◌∷◌, ◌++◌, length, take, drop, Some, None, Option, sym, refl, ap, ◌∙◌, subst, arith}
 use Rattle.std.specs.Int.Digits.{AllBelowBase}
 use Rattle.std.proofs.ByRecursion.{All-take}
 use Rattle.std.proofs.lemmas.List.{append_assoc, take-append-drop, length-take-le, nil_from_length}
 use Rattle.std.proofs.lemmas.Bool.{false≢true, eqb-true, ltb-true, leb-true}
-use Rattle.classes.specs.Outcomes.{Outcome, accepted, refusal}
+use Rattle.classes.specs.Outcomes.{Outcome, accepted}
 use Rattle.tariff.specs.declared.terms.Terms.{Terms}
 use Rattle.lines.specs.declared.sets.Counts.{Counts}
 use Rattle.lines.specs.declared.states.Line.{Line}
 use Rattle.contents.specs.declared.contents.Contents.{Contents}
-use Rattle.contents.specs.Contents.{new_contents, with_version}
-use Rattle.contents.specs.Calls.{Refused, unless, open_refusal, opened, put_refusal, add_refusal}
+use Rattle.contents.specs.Contents.{with_version}
+use Rattle.contents.specs.Calls.{Refused, open_refusal, opened, put_refusal, add_refusal}
 use Rattle.contents.proofs.Refused.{passed}
 use Rattle.sheet.specs.declared.records.Kind.{Kind}
 use Rattle.sheet.specs.declared.records.Kind.TheVariants.{Opening, Tariff, Line as LineKind, End}
 use Rattle.sheet.specs.declared.reading.Draft.{Draft}
 use Rattle.sheet.specs.declared.reading.Stage.{Stage}
 use Rattle.sheet.specs.declared.reading.Stage.TheVariants.{Start, Tariffs, Lines, Ended}
-use Rattle.sheet.specs.Acceptable.{tariff_records, line_records, sheet_records, RisingFrom, PutInTurn, AddedInTurn, Acceptable}
+use Rattle.sheet.specs.Acceptable.{tariff_records, line_records, RisingFrom, PutInTurn, AddedInTurn, Acceptable}
 use Rattle.sheet.specs.Records.{kind_coded, body_length, opening_record, tariff_record, line_record, end_record, opening_version, opening_counts, body_tariff, body_terms, body_number, body_line}
 use Rattle.sheet.specs.Reading.{not_ended, due, above, fields_refusal, body_refusal, body_taken, kind_refusal, kind_taken, kind_length, record_refusal, placed_or, finished, read_on, new_draft, sheet_outcome}
 use Rattle.sheet.proofs.Codec.{opening_again, tariff_again, line_again}

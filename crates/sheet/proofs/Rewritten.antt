@@ -1,5 +1,5 @@
 -- What an acceptable sheet holds is written back as the same bytes.
-use Rattle.std.proofs.Common.{◌≡◌, ℕ, zero, suc, ◌+◌, ◌-◌, ◌<◌, ◌≤◌, Bool, true, false, ◌&&◌, leb, ◌≢◌, List, [], ◌∷◌, ◌++◌, length, get_or, set, replicate, is_some, Some, None, Option, sym, refl, ap, ◌∙◌, subst, arith}
+use Rattle.std.proofs.Common.{◌≡◌, ℕ, zero, suc, ◌+◌, ◌-◌, ◌<◌, ◌≤◌, true, leb, ◌≢◌, List, [], ◌∷◌, ◌++◌, length, get_or, set, is_some, Some, None, Option, sym, refl, ap, ◌∙◌, subst, arith}
 use Rattle.std.proofs.lemmas.List.{append_assoc, append-nil, length-set, length-replicate, get_or-set_other, get_or-replicate}
 use Rattle.std.proofs.lemmas.Bool.{and_parts, leb-true, false≢true}
 use Rattle.tariff.specs.declared.terms.Tariff.{Tariff}
@@ -7,14 +7,13 @@ use Rattle.tariff.specs.declared.terms.Terms.{Terms}
 use Rattle.tariff.specs.Ranges.{checked, numbers_of}
 use Rattle.tariff.proofs.Ranges.{checked_exact}
 use Rattle.lines.specs.declared.states.Line.{Line}
-use Rattle.lines.specs.declared.states.LineState.{LineState}
-use Rattle.lines.specs.declared.states.LineState.TheVariants.{Free, Live, Withdrawn}
+use Rattle.lines.specs.declared.states.LineState.TheVariants.{Free, Live}
 use Rattle.contents.specs.declared.contents.Contents.{Contents}
 use Rattle.contents.specs.declared.contents.Phase.TheVariants.{Draft}
 use Rattle.contents.specs.Contents.{in_phase, new_contents, with_version, with_tariff, tariff_number, line_number}
-use Rattle.contents.specs.Calls.{Refused, unless, opened, put_refusal, stored, add_refusal, added}
+use Rattle.contents.specs.Calls.{opened, stored, added}
 use Rattle.contents.proofs.Refused.{passed}
-use Rattle.sheet.specs.Acceptable.{tariff_records, line_records, sheet_records, RisingFrom, PutInTurn, AddedInTurn, Acceptable}
+use Rattle.sheet.specs.Acceptable.{tariff_records, line_records, RisingFrom, PutInTurn, AddedInTurn, Acceptable}
 use Rattle.sheet.specs.Records.{opening_record, tariff_record, line_record, end_record}
 use Rattle.sheet.specs.Writing.{tariff_bytes, line_bytes, table_bytes, sheet_of}
 

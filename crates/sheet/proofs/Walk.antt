@@ -1,15 +1,14 @@
 -- Reading on, one record after another.
-use Rattle.std.proofs.Common.{◌≡◌, ℕ, zero, suc, ◌+◌, ◌<◌, ◌≤◌, Bool, true, false, leb, List, [], ◌∷◌, length, get_or, take, drop, Some, None, Option, sym, refl, ap, ◌∙◌, add-one, arith}
-use Rattle.std.proofs.lemmas.List.{drop_more, drop_all, drop-drop, length-drop}
+use Rattle.std.proofs.Common.{◌≡◌, ℕ, zero, suc, ◌+◌, ◌<◌, ◌≤◌, leb, List, [], ◌∷◌, length, get_or, drop, Some, None, Option, sym, ap, ◌∙◌, arith}
+use Rattle.std.proofs.lemmas.List.{drop_more, drop_all, drop-drop}
 use Rattle.std.proofs.lemmas.Bool.{leb-true}
-use Rattle.classes.specs.Outcomes.{Outcome, accepted, refusal}
-use Rattle.contents.specs.declared.contents.Contents.{Contents}
-use Rattle.contents.specs.Calls.{Refused, unless}
+use Rattle.classes.specs.Outcomes.{refusal}
+use Rattle.contents.specs.Calls.{Refused}
 use Rattle.contents.proofs.Refused.{passed}
 use Rattle.sheet.specs.declared.reading.Draft.{Draft}
 use Rattle.sheet.specs.declared.records.Kind.{Kind}
 use Rattle.sheet.specs.Records.{kind_coded, body_length}
-use Rattle.sheet.specs.Reading.{not_ended, due, kind_refusal, kind_taken, kind_length, record_refusal, body_refusal, placed_or, finished, read_on}
+use Rattle.sheet.specs.Reading.{not_ended, due, kind_refusal, kind_taken, kind_length, record_refusal, placed_or, finished, read_on}
 use Rattle.sheet.specs.Refusals.{placed}
 
 -- the bytes of a body are passed over

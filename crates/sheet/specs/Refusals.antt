@@ -1,5 +1,5 @@
 -- The number of each refusal of a sheet, and the values that it carries.
-use Rattle.std.specs.Prelude.{ℕ, List, [], ◌∷◌, Some, None, Option, Result}
+use Rattle.std.specs.Prelude.{ℕ, [], ◌∷◌, Some, None, Option, Result}
 use Rattle.classes.specs.Outcomes.{Outcome, outcome_by}
 use Rattle.contents.specs.Calls.{Refused as Numbered}
 use Rattle.contents.specs.Refusals.{numbered as book-numbered}

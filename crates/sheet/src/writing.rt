@@ -37,7 +37,8 @@ trait Listed {
 
     // Writes the record, if there is one, and answers its length.
     fn write(&self, number: u16, space: &mut [u8]) -> usize
-        requires { (number ≤ most) × (length (bytes self.now number) ≤ length space.old) }
+        requires numbered { number ≤ most }
+        requires room { length (bytes self.now number) ≤ length space.old }
         ensures after { space.new ≡ written 0 (bytes self.now number) space.old }
         ensures value { result ≡ length (bytes self.now number) };
 }
@@ -107,7 +108,9 @@ fn table_length<T: Listed>(table: &[T]) -> usize
 
 // Writes the records of a table from a place on, and answers the place behind them.
 fn write_table<T: Listed>(table: &[T], space: &mut [u8], start: usize) -> usize
-    requires { (length table.now ≤ T.most) × ((length table.now ≤ 256) × (start + length (table_bytes T.bytes 1 table.now) ≤ length space.old)) }
+    requires numbered { length table.now ≤ T.most }
+    requires few { length table.now ≤ 256 }
+    requires room { start + length (table_bytes T.bytes 1 table.now) ≤ length space.old }
     ensures after { space.new ≡ written start (table_bytes T.bytes 1 table.now) space.old }
     ensures value { result ≡ start + length (table_bytes T.bytes 1 table.now) }
 {

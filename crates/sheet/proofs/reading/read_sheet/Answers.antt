@@ -1,10 +1,9 @@
-use Rattle.std.proofs.Common.{◌≡◌, ℕ, ◌+◌, ◌-◌, ◌≤◌, length, get_or, take, drop, Some, None, sym, refl, ap, ◌∙◌, arith, rules}
+use Rattle.std.proofs.Common.{◌≡◌, ◌+◌, ◌-◌, ◌≤◌, length, get_or, take, drop, None, sym, refl, ap, ◌∙◌, arith, rules}
 use Rattle.std.proofs.lemmas.List.{take_rest, length-drop}
-use Rattle.contents.specs.Calls.{answered}
 use Rattle.contents.proofs.Refused.{answered_refused, answered_accepted}
 use Rattle.sheet.specs.Records.{kind_coded}
 use Rattle.sheet.specs.Reading.{read_on, record_refusal, kind_taken, kind_length}
-use Rattle.sheet.specs.Refusals.{placed, fault_numbered, left_by}
+use Rattle.sheet.specs.Refusals.{fault_numbered, left_by}
 use Rattle.sheet.proofs.Walk.{taken_whole, read_refused, read_taken, read_end}
 use Rattle.sheet.proofs.reading.read_sheet.Goals as goal
 

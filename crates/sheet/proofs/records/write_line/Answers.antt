@@ -1,5 +1,5 @@
 -- The fields one after another, each where the one before it ended.
-use Rattle.std.proofs.Common.{◌≡◌, ℕ, List, [], ◌∷◌, ◌++◌, length, refl, arith}
+use Rattle.std.proofs.Common.{◌≡◌, [], ◌∷◌, ◌++◌, length, refl, arith}
 use Rattle.sheet.specs.Fields.{high_first}
 use Rattle.sheet.specs.Records.{line_record}
 use Rattle.sheet.proofs.Bytes.{written_then, joined_length, length_high_first}

@@ -1,11 +1,11 @@
-use Rattle.std.proofs.Common.{◌≡◌, ℕ, ◌+◌, ◌≤◌, List, [], ◌∷◌, ◌++◌, length, None, sym, refl, ap, ◌∙◌, arith, rules}
+use Rattle.std.proofs.Common.{◌≡◌, ◌+◌, ◌≤◌, ◌++◌, length, sym, refl, ap, ◌∙◌, arith, rules}
 use Rattle.std.proofs.lemmas.List.{length-append}
 use Rattle.classes.specs.Outcomes.{accepted}
 use Rattle.contents.specs.Calls.{answered}
 use Rattle.sheet.specs.Refusals.{left_by}
 use Rattle.sheet.specs.Fields.{written}
 use Rattle.sheet.specs.Records.{opening_record, end_record}
-use Rattle.sheet.specs.Writing.{tariff_bytes, line_bytes, table_bytes, sheet_of, write_refusal}
+use Rattle.sheet.specs.Writing.{tariff_bytes, line_bytes, table_bytes, sheet_of}
 use Rattle.sheet.proofs.Bytes.{written_then}
 use Rattle.sheet.proofs.Lengths.{length_sheet, write_taken}
 use Rattle.sheet.proofs.writing.write_sheet.Goals as goal
@@ -16,12 +16,20 @@ write_opening-place-requires c = omega (arith, length_sheet c.args.contents.now,
 pub write_table-place-requires : goal.write_table-place-requires
 write_table-place-requires c =
     let size = length_sheet c.args.contents.now in
-    (search rules, (search rules, omega (arith, size, c.sheet_length.ensures, c.if-space-sheet_length.false, c.write_opening-place.ensures.value, c.write_opening-place.auto.space)))
+    record {
+      numbered = search rules;
+      few = search rules;
+      room = omega (arith, size, c.sheet_length.ensures, c.if-space-sheet_length.false, c.write_opening-place.ensures.value, c.write_opening-place.auto.space);
+    }
 
 pub write_table-place-requires-2 : goal.write_table-place-requires-2
 write_table-place-requires-2 c =
     let size = length_sheet c.args.contents.now in
-    (search rules, (search rules, omega (arith, size, c.sheet_length.ensures, c.if-space-sheet_length.false, c.write_opening-place.ensures.value, c.write_opening-place.auto.space, c.write_table-place.ensures.value, c.write_table-place.auto.space)))
+    record {
+      numbered = search rules;
+      few = search rules;
+      room = omega (arith, size, c.sheet_length.ensures, c.if-space-sheet_length.false, c.write_opening-place.ensures.value, c.write_opening-place.auto.space, c.write_table-place.ensures.value, c.write_table-place.auto.space);
+    }
 
 pub put-requires : goal.put-requires
 put-requires c =

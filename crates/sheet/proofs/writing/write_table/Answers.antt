@@ -1,4 +1,4 @@
-use Rattle.std.proofs.Common.{◌≡◌, ℕ, ◌+◌, ◌-◌, ◌<◌, ◌≤◌, List, ◌++◌, length, get_or, take, drop, sym, refl, ap, ◌∙◌, arith, rules}
+use Rattle.std.proofs.Common.{◌≡◌, ℕ, ◌+◌, ◌-◌, ◌<◌, ◌≤◌, List, length, get_or, take, drop, sym, refl, ap, ◌∙◌, arith, rules}
 use Rattle.std.proofs.lemmas.List.{length-append, length-drop, take_rest}
 use Rattle.sheet.specs.Fields.{written}
 use Rattle.sheet.specs.Writing.{table_bytes}
@@ -18,14 +18,17 @@ pub write-place-requires : goal.write-place-requires
 write-place-requires g c =
     let more = left_to_write g.T.Listed.bytes c.loop-passed.passed c.args.table.now c.index-table-passed.result c.loop-passed-test.true c.index-table-passed.is in
     let part = part_length c.loop-passed.space c.loop-passed.place in
-    (omega (arith, c.requires.0, c.loop-passed-test.true), omega (arith, more, part, c.loop-passed.invariant.0, c.requires.1.1, c.loop-passed.auto.space))
+    record {
+      numbered = omega (arith, c.requires.numbered, c.loop-passed-test.true);
+      room = omega (arith, more, part, c.loop-passed.invariant.0, c.requires.room, c.loop-passed.auto.space);
+    }
 
 pub overflow_add-place : goal.overflow_add-place
 overflow_add-place g c =
     let more = left_to_write g.T.Listed.bytes c.loop-passed.passed c.args.table.now c.index-table-passed.result c.loop-passed-test.true c.index-table-passed.is in
     let inv = c.loop-passed.invariant.0 in
     let value = c.write-place.ensures.value in
-    let room = c.requires.1.1 in
+    let room = c.requires.room in
     search rules
 
 pub loop-passed-preserved : goal.loop-passed-preserved
@@ -40,7 +43,7 @@ loop-passed-preserved g c =
     let rest = table_bytes bytes (i + 1 + 1) (drop (i + 1) table) in
     let more = left_to_write bytes i table x c.loop-passed-test.true c.index-table-passed.is in
     let wrote = written_part place record_bytes (take (length space - place) (drop place space)) c.write-place.new.space space (take_rest space place) c.write-place.ensures.after in
-    let fits : place + (length record_bytes + length rest) ≤ length space = omega (arith, more, c.loop-passed.invariant.0, c.requires.1.1, c.loop-passed.auto.space) in
+    let fits : place + (length record_bytes + length rest) ≤ length space = omega (arith, more, c.loop-passed.invariant.0, c.requires.room, c.loop-passed.auto.space) in
     let both = written_then place (place + c.write-place.result) (length record_bytes) (length rest) record_bytes rest space _ _ refl refl wrote refl (ap (λ n. place + n) c.write-place.ensures.value) fits in (
       omega (arith, more, c.loop-passed.invariant.0, c.write-place.ensures.value),
       both ∙ ap (λ bs. written place bs space) (sym (table_more bytes (i + 1) i table x c.loop-passed-test.true c.index-table-passed.is)) ∙ c.loop-passed.invariant.1,

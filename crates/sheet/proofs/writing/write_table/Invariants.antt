@@ -1,4 +1,4 @@
-use Rattle.std.proofs.Common.{◌≡◌, ◌+◌, ◌*◌, ◌≤◌, length, drop}
+use Rattle.std.proofs.Common.{◌≡◌, ◌+◌, length, drop}
 use Rattle.sheet.specs.Fields.{written}
 use Rattle.sheet.specs.Writing.{table_bytes}
 use Rattle.sheet.proofs.writing.write_table.Given as goal

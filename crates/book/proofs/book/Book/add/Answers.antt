@@ -4,7 +4,7 @@ use Rattle.book.proofs.Refusing.{add_overlap}
 use Rattle.book.proofs.book.Book.add.Goals as goal
 
 pub invariant_of-self : goal.invariant_of-self
-invariant_of-self c = (search (add_left), tt)
+invariant_of-self c = record { sound = search (add_left) }
 
 pub returns : goal.returns
 returns c = record {

@@ -4,7 +4,7 @@ use Rattle.book.proofs.Refusing.{issue_gap, issue_whole}
 use Rattle.book.proofs.book.Book.issue.Goals as goal
 
 pub invariant_of-self : goal.invariant_of-self
-invariant_of-self c = (search (issue_left), tt)
+invariant_of-self c = record { sound = search (issue_left) }
 
 pub returns : goal.returns
 returns c = record {

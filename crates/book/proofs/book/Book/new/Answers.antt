@@ -2,4 +2,4 @@ use Rattle.book.proofs.Keeps.{new_sound}
 use Rattle.book.proofs.book.Book.new.Goals as goal
 
 pub invariant_of-result : goal.invariant_of-result
-invariant_of-result c = (rw c.new.ensures (∣ new_sound ∣₁), tt)
+invariant_of-result c = record { sound = rw c.new.ensures (∣ new_sound ∣₁) }

@@ -7,7 +7,7 @@ use Rattle.book.proofs.book.Book.read.Goals as goal
 pub returns : goal.returns
 returns c =
     let bytes = c.args.bytes.now in
-    let small = All-from_get_or (λ x. x < 256) bytes 0 (λ i within. omega (arith, c.type-inv.bytes i)) in
+    let small = All-from_get_or (λ x. x < 256) bytes 0 (λ i within. omega (arith, c.type_inv.bytes i)) in
     let answer = c.take_sheet.ensures.answer in
     let after = c.take_sheet.ensures.after in
     record {

@@ -4,7 +4,7 @@ use Rattle.book.proofs.Refusing.{restore_overlap}
 use Rattle.book.proofs.book.Book.restore.Goals as goal
 
 pub invariant_of-self : goal.invariant_of-self
-invariant_of-self c = (search (restore_left), tt)
+invariant_of-self c = record { sound = search (restore_left) }
 
 pub returns : goal.returns
 returns c = record {

@@ -1,6 +1,5 @@
-use Rattle.std.proofs.Common.{◌≡◌, ℕ, true, Some, Option, sym, refl, ap, ◌∙◌}
+use Rattle.std.proofs.Common.{◌≡◌, ℕ, true, Some, Option, sym, ap, ◌∙◌}
 use Rattle.std.proofs.lemmas.Result.{err_from_is_err_and}
-use Rattle.contents.specs.declared.contents.Contents.{Contents}
 use Rattle.contents.specs.Calls.{answered, settled, add_refusal, added}
 use Rattle.sheet.specs.Refusals.{left_by}
 use Rattle.sheet.specs.declared.records.Kind.TheVariants.{Line}

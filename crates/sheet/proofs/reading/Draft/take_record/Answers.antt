@@ -1,9 +1,9 @@
-use Rattle.std.proofs.Common.{◌≡◌, ◌-◌, ◌≤◌, true, length, take, sym, ap, ◌∙◌, arith}
+use Rattle.std.proofs.Common.{◌≡◌, ◌-◌, ◌≤◌, length, take, sym, ap, ◌∙◌, arith}
 use Rattle.std.proofs.lemmas.Result.{err_from_is_err_and}
 use Rattle.classes.specs.Outcomes.{refusal, accepted}
 use Rattle.contents.specs.Calls.{answered}
 use Rattle.contents.proofs.Refused.{answered_refused, answered_accepted}
-use Rattle.sheet.specs.Reading.{body_taken, kind_length, due, not_ended}
+use Rattle.sheet.specs.Reading.{body_taken, kind_length}
 use Rattle.sheet.specs.Records.{kind_coded, body_length}
 use Rattle.sheet.specs.Refusals.{fault_numbered, fault_outcome, left_by}
 use Rattle.sheet.proofs.Drafts.{through}

@@ -1,7 +1,6 @@
-use Rattle.std.proofs.Common.{◌≡◌, ℕ, true, Some, Option, sym, refl, ap, ◌∙◌}
+use Rattle.std.proofs.Common.{◌≡◌, ℕ, true, Some, Option, sym, ap, ◌∙◌}
 use Rattle.std.proofs.lemmas.Result.{err_from_is_err_and}
 use Rattle.tariff.specs.Ranges.{checked}
-use Rattle.contents.specs.declared.contents.Contents.{Contents}
 use Rattle.contents.specs.Calls.{answered, settled, put_refusal, stored}
 use Rattle.sheet.specs.Refusals.{left_by}
 use Rattle.sheet.specs.declared.records.Kind.TheVariants.{Tariff}

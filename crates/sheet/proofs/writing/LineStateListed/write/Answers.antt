@@ -9,7 +9,7 @@ pub write_line-requires : goal.write_line-requires
 write_line-requires c =
     let n = c.args.number in
     let size : length (line_bytes c.args.self.now n) ≡ 36 = ap (λ o. length (line_held_bytes o n)) (sym c.in-Some.ensures) ∙ length_line_record n c.in-Some.line in
-    omega (arith, size, c.requires.1)
+    omega (arith, size, c.requires.room)
 
 pub returns-in-Some : goal.returns-in-Some
 returns-in-Some c =

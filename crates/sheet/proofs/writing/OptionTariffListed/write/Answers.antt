@@ -9,7 +9,7 @@ use Rattle.sheet.proofs.writing.OptionTariffListed.write.Goals as goal
 pub write_tariff-requires : goal.write_tariff-requires
 write_tariff-requires c =
     let size : length (tariff_bytes c.args.self.now c.args.number) ≡ 31 = ap (λ s. length (tariff_bytes s c.args.number)) c.in-Some.is ∙ length_tariff_record c.args.number (numbers_of c.in-Some.tariff) in
-    omega (arith, size, c.requires.1)
+    omega (arith, size, c.requires.room)
 
 pub returns-in-Some : goal.returns-in-Some
 returns-in-Some c =
