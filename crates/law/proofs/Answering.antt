@@ -3,7 +3,7 @@ use Rattle.std.proofs.Common.{◌≡◌, ℕ, ◌+◌, ◌<◌, true, ltb, List,
 use Rattle.std.proofs.lemmas.Bool.{false≢true, lt-ltb}
 use Rattle.classes.specs.declared.refusal.Classes.{Classes}
 use Rattle.classes.specs.declared.usage.Usage.{Usage}
-use Rattle.classes.specs.Outcomes.{accepted, refusal}
+use Rattle.classes.specs.Outcomes.{accepted}
 use Rattle.lines.specs.declared.states.Line.{Line}
 use Rattle.lines.specs.declared.states.LineState.TheVariants.{Withdrawn}
 use Rattle.gaps.specs.Gaps.{first_gap}
