@@ -5,7 +5,7 @@ use Rattle.std.proofs.ByRecursion.{All-push}
 use Rattle.std.proofs.lemmas.List.{length_push, map-append, map_more, take_all}
 use Rattle.contents.specs.declared.contents.Contents.{Contents}
 use Rattle.contents.specs.Contents.{new_contents}
-use Rattle.law.specs.Histories.{Asked, ReadsBytes, Told, Entry, History, answer_to, entry_of, after_entry, plain_book_from, plain_book, history_from, history_of}
+use Rattle.law.specs.Histories.{Asked, ReadsBytes, Told, answer_to, entry_of, after_entry, plain_book_from, plain_book, history_from, history_of}
 use Rattle.law.specs.Law.{Lawful}
 use Rattle.law.proofs.Runs.{step_settled, book_push, every_run_lawful}
 use Rattle.journal.specs.Asked.{OneStep}

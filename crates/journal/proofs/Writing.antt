@@ -1,7 +1,7 @@
 -- The space that a sheet was written into, cut to the length of the sheet, is the sheet.
-use Rattle.std.proofs.Common.{◌≡◌, ℕ, ◌+◌, List, ◌++◌, length, take, drop, Some, None, Option, refl, ap, ◌∙◌, arith}
+use Rattle.std.proofs.Common.{◌≡◌, ℕ, ◌+◌, List, length, take, drop, Some, None, Option, ap, ◌∙◌, arith}
 use Rattle.std.proofs.lemmas.List.{take-append-le, take_all}
-use Rattle.classes.specs.Outcomes.{Outcome, accepted}
+use Rattle.classes.specs.Outcomes.{accepted}
 use Rattle.contents.specs.Calls.{Refused, answered}
 use Rattle.sheet.specs.Refusals.{left_by}
 use Rattle.sheet.specs.Fields.{written}

@@ -6,7 +6,7 @@ use Rattle.classes.specs.Outcomes.{Outcome, accepted, refusal}
 use Rattle.contents.specs.declared.contents.Contents.{Contents}
 use Rattle.contents.specs.Calls.{settled}
 use Rattle.contents.specs.Refusals.{numbered}
-use Rattle.sheet.specs.Refusals.{numbered as sheet-numbered}
+use Rattle.sheet.specs.Refusals.{numbered as sheet_numbered}
 use Rattle.charging.specs.Prices.{meanings}
 use Rattle.law.specs.Histories.{Asked, open_call, put_call, add_call, withdraw_call, restore_call, strike_call, issue_call, reopen_call, price_call, read_call, write_call, ReadsBytes, Told, done, at_version, at_price, wrote, refused, refusal_of, answer_to, after_call}
 use Rattle.journal.specs.declared.call.Answer.{Answer}
@@ -35,7 +35,7 @@ told (Version v) = at_version v
 told (Priced p) = at_price p
 told (Wrote bytes) = wrote (vec_items bytes)
 told (Refused r) = refused (numbered r)
-told (SheetRefused r) = refused (sheet-numbered r)
+told (SheetRefused r) = refused (sheet_numbered r)
 
 -- what the outcome of a call tells, by what its value tells
 abbrev pub told_of : {A : Type 0} → (A → Told) → Outcome A → Told

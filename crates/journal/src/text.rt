@@ -1,7 +1,7 @@
 // The lines that tell the answers.
 ghost use Rattle.std.specs.Prelude.{◌≡◌, IfOk, Some, string_bytes};
 ghost use Rattle.contents.specs.Refusals.{numbered};
-ghost use Rattle.sheet.specs.Refusals.{numbered as sheet-numbered};
+ghost use Rattle.sheet.specs.Refusals.{numbered as sheet_numbered};
 ghost use Rattle.journal.specs.Asked.{told};
 ghost use Rattle.journal.specs.Text.{refusal_text, line_text, script_refused_text};
 
@@ -40,7 +40,7 @@ impl fmt::Display for RefusalText {
 
 // "1", "19 at 7", "20 at 73 because 11" or "21"
 impl fmt::Display for SheetRefusalText {
-    ghost output = { λ r. Some (refusal_text (sheet-numbered r.0)) };
+    ghost output = { λ r. Some (refusal_text (sheet_numbered r.0)) };
 
     fn fmt<W: fmt::Write>(&self, f: &mut fmt::Formatter<W>) -> fmt::Result {
         let number = self.0.number();

@@ -2,7 +2,7 @@
 use Rattle.std.specs.Prelude.{ℕ, [], ◌∷◌, Some, None, Option, Result}
 use Rattle.classes.specs.Outcomes.{Outcome, outcome_by}
 use Rattle.contents.specs.Calls.{Refused as Numbered}
-use Rattle.contents.specs.Refusals.{numbered as book-numbered}
+use Rattle.contents.specs.Refusals.{numbered as book_numbered}
 use Rattle.sheet.specs.declared.refusal.RecordFault.{RecordFault}
 use Rattle.sheet.specs.declared.refusal.RecordFault.TheVariants.{CutShort, UnknownKind, NotDue, Refused}
 use Rattle.sheet.specs.declared.refusal.SheetRefusal.{SheetRefusal}
@@ -13,14 +13,14 @@ abbrev pub fault_numbered : RecordFault → Numbered
 fault_numbered CutShort = (17, [])
 fault_numbered UnknownKind = (18, [])
 fault_numbered NotDue = (19, [])
-fault_numbered (Refused r) = (20, (book-numbered r).0 ∷ [])
+fault_numbered (Refused r) = (20, (book_numbered r).0 ∷ [])
 
 -- the place comes before the other values
 abbrev pub placed : ℕ → Numbered → Numbered
 placed place r = (r.0, place ∷ r.1)
 
 abbrev pub numbered : SheetRefusal → Numbered
-numbered (Book r) = book-numbered r
+numbered (Book r) = book_numbered r
 numbered (Record place fault) = placed place (fault_numbered fault)
 numbered SpaceTooShort = (21, [])
 

@@ -1,6 +1,6 @@
 // Why a sheet is not read or not written.
 ghost use Rattle.std.specs.Prelude.{◌≡◌, [], ◌∷◌};
-ghost use Rattle.contents.specs.Refusals.{numbered as book-numbered};
+ghost use Rattle.contents.specs.Refusals.{numbered as book_numbered};
 ghost use Rattle.sheet.specs.Refusals.{fault_numbered, numbered};
 
 use contents::Refusal;
@@ -52,7 +52,7 @@ impl RecordFault {
 }
 
 impl From<Refusal> for RecordFault {
-    ghost from_gives = { λ e r. fault_numbered r ≡ (20, (book-numbered e).0 ∷ []) };
+    ghost from_gives = { λ e r. fault_numbered r ≡ (20, (book_numbered e).0 ∷ []) };
 
     fn from(refusal: Refusal) -> RecordFault {
         RecordFault::Refused(refusal)
@@ -60,7 +60,7 @@ impl From<Refusal> for RecordFault {
 }
 
 impl From<Refusal> for SheetRefusal {
-    ghost from_gives = { λ e r. numbered r ≡ book-numbered e };
+    ghost from_gives = { λ e r. numbered r ≡ book_numbered e };
 
     fn from(refusal: Refusal) -> SheetRefusal {
         SheetRefusal::Book(refusal)

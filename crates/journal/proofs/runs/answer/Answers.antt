@@ -2,7 +2,7 @@ use Rattle.std.proofs.Common.{◌+◌, refl}
 use Rattle.law.specs.Histories.{done, at_version, at_price}
 use Rattle.journal.proofs.Telling.{step_by, unchanged}
 use Rattle.journal.proofs.runs.answer.Goals as goal
-use Rattle.journal.proofs.runs.answer.Goals.{in-Open, in-Put, in-Add, in-Withdraw, in-Restore, in-Strike, in-Issue, in-Reopen, in-Price, in-Read, in-Write+in_ok-answer}
+use Rattle.journal.proofs.runs.answer.Goals.{in-Open, in-Put, in-Add, in-Withdraw, in-Restore, in-Strike, in-Issue, in-Reopen, in-Price, in-Read, in-Write+in_ok-answer-in-Write}
 
 pub returns : goal.returns
 returns g c =
@@ -17,5 +17,5 @@ returns g c =
       | in-Reopen w ↦ rw (w.answer-is, w.book-is, w.in-Reopen.is) (step_by (λ _. done) tt refl w.reopen.ensures.answer w.done_answer-answer-in-Reopen.ensures w.reopen.ensures.after tt)
       | in-Price w ↦ rw (w.answer-is, w.book-is, w.in-Price.is) (step_by at_price _ refl w.price.ensures.answer w.price_answer-answer.ensures (unchanged _ _) tt)
       | in-Read w ↦ rw (w.answer-is, w.book-is, w.in-Read.is) w.read_answer-answer.ensures
-      | in-Write+in_ok-answer w ↦ rw (w.answer-is, w.book-is, w.in-Write.is) (record { answer = w.in_ok-answer.ensures; contents = unchanged _ _; bytes = tt })
+      | in-Write+in_ok-answer-in-Write w ↦ rw (w.answer-is, w.book-is, w.in-Write.is) (record { answer = w.in_ok-answer-in-Write.ensures; contents = unchanged _ _; bytes = tt })
     ]
