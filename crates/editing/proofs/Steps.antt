@@ -1,7 +1,6 @@
 -- The calls of steps, one step more at a time.
-use Rattle.std.proofs.Common.{◌≡◌, ℕ, suc, ◌+◌, ◌<◌, ◌≤◌, List, [], ◌∷◌, ◌++◌, map, length, get_or, drop, refl, ap, ◌∙◌, Bor}
+use Rattle.std.proofs.Common.{◌≡◌, ℕ, suc, ◌+◌, ◌<◌, ◌≤◌, List, [], ◌∷◌, map, length, get_or, drop, refl, ap, Bor}
 use Rattle.std.proofs.lemmas.List.{drop_more, drop_all}
-use Rattle.law.specs.Histories.{Asked}
 use Rattle.script.specs.declared.scripts.Step.{Step}
 use Rattle.script.specs.Commands.{with_names}
 use Rattle.script.specs.Fields.{Word}

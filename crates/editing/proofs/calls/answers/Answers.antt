@@ -1,12 +1,10 @@
-use Rattle.std.proofs.Common.{◌≡◌, ℕ, List, map, length, IfOk, vec_items, vec_len, sym, ap, ◌∙◌, subst}
+use Rattle.std.proofs.Common.{◌≡◌, map, length, IfOk, vec_items, vec_len, sym, ap, ◌∙◌, subst}
 use Rattle.std.proofs.lemmas.List.{length-map}
 use Rattle.classes.specs.Determinants.{whole_meaning}
-use Rattle.law.specs.Histories.{Asked, history_of}
+use Rattle.law.specs.Histories.{history_of}
 use Rattle.law.specs.Law.{Lawful}
 use Rattle.journal.specs.Asked.{asked, told}
 use Rattle.journal.specs.Replays.{entries}
-use Rattle.script.specs.Scripts.{plain_step}
-use Rattle.editing.specs.Calls.{script_calls}
 use Rattle.editing.proofs.Steps.{length_calls}
 use Rattle.editing.proofs.calls.answers.Goals as goal
 

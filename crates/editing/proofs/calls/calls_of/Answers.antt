@@ -1,6 +1,5 @@
-use Rattle.std.proofs.Common.{◌≡◌, ◌+◌, cond, [], ◌∷◌, ◌++◌, map, get_or, drop, is_ok, vec_items, sym, ap, ◌∙◌, Bor}
+use Rattle.std.proofs.Common.{◌+◌, cond, [], ◌∷◌, ◌++◌, map, get_or, drop, is_ok, vec_items, sym, ap, ◌∙◌, Bor}
 use Rattle.std.proofs.lemmas.List.{append_assoc, append-nil, map_push}
-use Rattle.std.proofs.lemmas.Slice.{pushed}
 use Rattle.classes.specs.Determinants.{whole_meaning}
 use Rattle.journal.specs.Asked.{asked}
 use Rattle.script.specs.declared.commands.Command.TheVariants.{Open}
