@@ -1,6 +1,7 @@
 // Runs the editing scripts of a file of cases, and counts those that print what is expected.
 #![tactic(auto)]
 
+use anyhow::anyhow;
 use editing::answers;
 use journal::{answer_line, refused_line};
 use script::{ScriptError, Step, parse_script};
@@ -20,8 +21,8 @@ enum Part {
 #[derive(Drop)]
 struct Cases {
     part: Part,
-    script: Vec<u8>,
-    expected: Vec<u8>,
+    script: String,
+    expected: String,
     run: u32,
     right: u32,
 }
@@ -38,33 +39,32 @@ fn steps_text(heap: Global, steps: &[Step<&[u8]>], text: &mut String) -> Result<
 }
 
 // Everything that is printed for a script.
-fn script_text(heap: Global, script: &[u8]) -> Result<String, AllocError> {
+fn script_text(heap: Global, script: &str) -> anyhow::Result<String> {
     let mut text = String::new(heap);
-    match parse_script(heap, script) {
+    match parse_script(heap, script.as_bytes()) {
         Ok(steps) => steps_text(heap, steps.as_slice(), &mut text)?,
         Err(ScriptError::Refused(line)) => {
             text.push_str(refused_line(heap, line)?.as_str())?;
             text.push_str("\n")?;
         }
-        Err(ScriptError::NoMemory) => return Err(AllocError),
+        Err(ScriptError::NoMemory) => return Err(anyhow!("out of memory")),
     }
     text.push_str("end\n")?;
     Ok(text)
 }
 
 // A line of a part, with its end.
-fn add_line(part: &mut Vec<u8>, line: &[u8]) -> Result<(), AllocError> {
-    part.extend_from_slice(line)?;
-    part.push(b'\n')?;
-    Ok(())
+fn add_line(part: &mut String, line: &str) -> Result<(), AllocError> {
+    part.push_str(line)?;
+    part.push_str("\n")
 }
 
 impl Cases {
     // Runs the case that was read.
-    fn run(&mut self, heap: Global) -> Result<(), AllocError> {
-        let text = script_text(heap, self.script.as_slice())?;
+    fn run(&mut self, heap: Global) -> anyhow::Result<()> {
+        let text = script_text(heap, self.script.as_str())?;
         self.run = self.run.saturating_add(1);
-        if text.as_bytes() == self.expected.as_slice() {
+        if text.as_str() == self.expected.as_str() {
             self.right = self.right.saturating_add(1);
         }
         self.script.clear();
@@ -73,22 +73,22 @@ impl Cases {
         Ok(())
     }
 
-    fn take(&mut self, heap: Global, line: &[u8]) -> Result<(), AllocError> {
+    fn take(&mut self, heap: Global, line: &str) -> anyhow::Result<()> {
         match self.part {
             Part::Outside => {
-                if line == b"script" {
+                if line == "script" {
                     self.part = Part::Script;
                 }
             }
             Part::Script => {
-                if line == b"expect" {
+                if line == "expect" {
                     self.part = Part::Expected;
                 } else {
                     add_line(&mut self.script, line)?;
                 }
             }
             Part::Expected => {
-                if line == b"." {
+                if line == "." {
                     self.run(heap)?;
                 } else {
                     add_line(&mut self.expected, line)?;
@@ -104,13 +104,13 @@ fn run(rt: &HostRuntime) -> anyhow::Result<()> {
     let bytes = fs::read(rt, "cases.txt")?;
     let mut cases = Cases {
         part: Part::Outside,
-        script: Vec::new(heap),
-        expected: Vec::new(heap),
+        script: String::new(heap),
+        expected: String::new(heap),
         run: 0,
         right: 0,
     };
     for line in from_utf8(bytes.as_slice())?.lines() {
-        cases.take(heap, line.as_bytes())?;
+        cases.take(heap, line)?;
     }
     let run = cases.run;
     let right = cases.right;
