@@ -1,7 +1,7 @@
 -- A run so far: every call has the answer of the plain book as it then stood, and the book is the plain book after them.
 use Rattle.std.proofs.Common.{◌≡◌, ℕ, ◌+◌, ◌<◌, ◌≤◌, List, [], ◌∷◌, ◌++◌, map, length, get_or, take, sym, refl, ap, ◌∙◌, subst, arith}
-use Rattle.std.specs.List.{AllByRecursion as All}
-use Rattle.std.proofs.ByRecursion.{All-push}
+use Rattle.std.specs.Prelude.{All}
+use Rattle.std.proofs.lemmas.List.Elements.{All-push}
 use Rattle.std.proofs.lemmas.List.{length_push, map-append, map_more, take_all}
 use Rattle.contents.specs.declared.contents.Contents.{Contents}
 use Rattle.contents.specs.Contents.{new_contents}
@@ -29,7 +29,7 @@ entries_push (x ∷ calls) [] a t many = absurd (omega arith)
 entries_push (x ∷ calls) (y ∷ answers) a t many = ap (λ h. record { asked = x; told = y } ∷ h) (entries_push calls answers a t (omega arith))
 
 pub running_none : Running [] [] new_contents
-running_none = record { many = refl; history = refl; book = refl; bytes = tt }
+running_none = record { many = refl; history = refl; book = refl; bytes = λ k d within. absurd (omega arith) }
 
 -- one call more
 pub running_more : (calls : List Asked) (answers : List Told) (b : Contents) (a : Asked) (t : Told) (after : Contents) → Running calls answers b → OneStep b a t after → Running (calls ++ (a ∷ [])) (answers ++ (t ∷ [])) after

@@ -1,6 +1,5 @@
 // Calls made one after another of a new book, with every answer.
-ghost use Rattle.std.specs.Prelude.{◌≡◌, List, map, length, IfOk, vec_len, OnOk};
-ghost use Rattle.std.specs.List.{AllByRecursion as All};
+ghost use Rattle.std.specs.Prelude.{◌≡◌, List, map, length, IfOk, vec_len, OnOk, All};
 ghost use Rattle.contents.specs.Refusals.{outcome};
 ghost use Rattle.law.specs.Histories.{Asked, ReadsBytes, read_call, write_call, done, at_version, at_price, answer_to, history_of};
 ghost use Rattle.law.specs.Law.{Lawful};
