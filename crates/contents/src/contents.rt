@@ -1,5 +1,5 @@
 // What a book holds. It has no invariant: it is the plain model of which the contracts of the book speak.
-ghost use Rattle.std.specs.Prelude.{◌≡◌, ◌-◌, ◌&&◌, leb, [], if◌then◌else◌, Some, None, nat_le};
+ghost use Rattle.std.specs.Prelude.{◌≡◌, ◌-◌, ◌&&◌, [], if◌then◌else◌, Some, None, nat_le};
 ghost use Rattle.classes.specs.Outcomes.{accepted, refusal};
 ghost use Rattle.contents.specs.Calls.{answered, overlap_refusal};
 ghost use Rattle.contents.specs.Contents.{in_phase, new_contents, tariff_number, line_number, tariff_at, line_at};
@@ -28,7 +28,7 @@ pub struct Contents {
 
 // The place of a number that counts from 1, among so many places.
 fn place_of(number: usize, places: usize) -> Option<usize>
-    ensures { result ≡ (if leb 1 number && nat_le number places then Some (number - 1) else None) }
+    ensures { result ≡ (if nat_le 1 number && nat_le number places then Some (number - 1) else None) }
 {
     if number >= 1 && number <= places {
         Some(number - 1)

@@ -1,6 +1,6 @@
 // Why a call is refused.
 ghost use Rattle.std.specs.Prelude.{◌≡◌};
-ghost use Rattle.classes.specs.Outcomes.{numbered as class-numbered};
+ghost use Rattle.classes.specs.Outcomes.{numbered as class_numbered};
 ghost use Rattle.contents.specs.Refusals.{numbered};
 
 use classes::{Classes, Role};
@@ -64,7 +64,7 @@ impl Refusal {
 }
 
 impl From<classes::Refusal> for Refusal {
-    ghost from_gives = { λ e r. numbered r ≡ class-numbered e };
+    ghost from_gives = { λ e r. numbered r ≡ class_numbered e };
 
     fn from(refusal: classes::Refusal) -> Refusal {
         match refusal {

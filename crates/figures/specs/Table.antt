@@ -37,7 +37,7 @@ at_minute n = record { 0 = n }
 
 -- a tariff by the metre with no offset and no minimum, at a VAT of 19 %
 abbrev by_metre : ℕ → ℕ → Rounding → ℕ → ℕ → Tariff
-by_metre unit rate rounding threshold cap-sum = record {
+by_metre unit rate rounding threshold cap_sum = record {
   measure = Metres;
   unit = unit;
   rate = rate;
@@ -45,7 +45,7 @@ by_metre unit rate rounding threshold cap-sum = record {
   threshold = threshold;
   offset = 0;
   minimum = 0;
-  «cap» = cap-sum;
+  «cap» = cap_sum;
   vat = 1900;
   vat_rounding = rounding;
 }

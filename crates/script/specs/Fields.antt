@@ -75,7 +75,7 @@ terms_fields ws =
     then (u32_field ws) λ minimum ws.
     then (u32_field ws) λ highest ws.
     then (u16_field ws) λ vat ws.
-    then (u8_field ws) λ vat-rounding ws.
+    then (u8_field ws) λ vat_rounding ws.
     Some (
       record {
         measure = measure;
@@ -87,7 +87,7 @@ terms_fields ws =
         minimum = minimum;
         «cap» = highest;
         vat = vat;
-        vat_rounding = vat-rounding;
+        vat_rounding = vat_rounding;
       },
       ws,
     )
