@@ -49,6 +49,7 @@ impl Book {
     }
 
     // Makes a free number live, with a line that overlaps no live line.
+    #[tactic(auto, using(crate::proofs::Refusing::add_overlap))]
     pub fn add(&mut self, number: u16, line: Line) -> Result<(), Refusal>
         ensures answer { outcome result ≡ answered (add_refusal self.old.contents number line) tt }
         ensures after { self.new.contents ≡ settled (add_refusal self.old.contents number line) self.old.contents (added number line self.old.contents) }
@@ -66,6 +67,7 @@ impl Book {
     }
 
     // Makes a withdrawn line live again, where it overlaps no live line.
+    #[tactic(auto, using(crate::proofs::Refusing::restore_overlap))]
     pub fn restore(&mut self, number: u16) -> Result<(), Refusal>
         ensures answer { outcome result ≡ answered (restore_refusal self.old.contents number) tt }
         ensures after { self.new.contents ≡ settled (restore_refusal self.old.contents number) self.old.contents (restored number self.old.contents) }

@@ -38,6 +38,7 @@ impl Book {
     }
 
     // Writes the book's sheet from the front of the space, and answers its length.
+    #[tactic(auto, using(crate::proofs::Backward::written_reads_back))]
     pub fn write(&self, space: &mut [u8]) -> Result<usize, SheetRefusal>
         ensures answer { outcome result ≡ answered (write_refusal self.now.contents (length space.old)) (length (sheet_of self.now.contents)) }
         ensures after { space.new ≡ left_by (write_refusal self.now.contents (length space.old)) space.old (written 0 (sheet_of self.now.contents) space.old) }
