@@ -1,6 +1,6 @@
 // The two calls that read and write the tariff sheet of a book.
-ghost use Rattle.std.specs.Prelude.{◌≡◌, ℕ, true, length};
-ghost use Rattle.classes.specs.Outcomes.{accepted};
+ghost use Rattle.std.specs.Prelude.{◌≡◌, ℕ, ◌<◌, true, [], length};
+ghost use Rattle.classes.specs.Outcomes.{accepted, refusal};
 ghost use Rattle.contents.specs.declared.contents.Contents.{Contents};
 ghost use Rattle.contents.specs.declared.contents.Phase.TheVariants.{Blank};
 ghost use Rattle.contents.specs.Calls.{answered, settled};
@@ -14,7 +14,7 @@ ghost use Rattle.book.specs.Laws.{ReadsBack};
 
 use crate::book::Book;
 use contents::Phase;
-use sheet::{SheetRefusal, read_sheet, write_sheet};
+use sheet::{LONGEST_SHEET, SheetRefusal, read_sheet, write_sheet};
 
 impl Book {
     // Makes a draft of a blank book, with the version, counts, tariffs and lines of a sheet.
@@ -42,6 +42,7 @@ impl Book {
     pub fn write(&self, space: &mut [u8]) -> Result<usize, SheetRefusal>
         ensures answer { outcome result ≡ answered (write_refusal self.now.contents (length space.old)) (length (sheet_of self.now.contents)) }
         ensures after { space.new ≡ left_by (write_refusal self.now.contents (length space.old)) space.old (written 0 (sheet_of self.now.contents) space.old) }
+        ensures longest { outcome result ≡ refusal (21, []) → length space.old < LONGEST_SHEET }
         ensures back { (n : ℕ) → outcome result ≡ accepted n → ReadsBack self.now.contents (sheet_of self.now.contents) }
     {
         write_sheet(&self.contents, space)

@@ -1,9 +1,14 @@
 -- How long records are, and writes of whole records.
-use Rattle.std.proofs.Common.{◌≡◌, ℕ, ◌+◌, ◌-◌, ◌<◌, ◌≤◌, leb, List, [], ◌++◌, length, get_or, take, drop, None, sym, refl, ap, ◌∙◌, arith}
+use Rattle.std.proofs.Common.{◌≡◌, ℕ, ◌+◌, ◌-◌, ◌*◌, ◌<◌, ◌≤◌, leb, List, [], ◌∷◌, ◌++◌, length, get_or, take, drop, Some, None, Option, sym, refl, ap, ◌∙◌, arith}
 use borrow.Rule.Slice.PartMut.{put_mid}
 use Rattle.std.proofs.lemmas.List.{append-nil, take-append-drop, length-append, drop_more, drop_all, drop-drop}
+use Rattle.std.proofs.Math.Nat.{mul-suc}
+use Rattle.tariff.specs.declared.terms.Tariff.{Tariff}
 use Rattle.tariff.specs.declared.terms.Terms.{Terms}
+use Rattle.tariff.specs.Ranges.{numbers_of}
 use Rattle.lines.specs.declared.states.Line.{Line}
+use Rattle.lines.specs.declared.states.LineState.{LineState}
+use Rattle.lines.specs.declared.states.LineState.TheVariants.{Free, Live, Withdrawn}
 use Rattle.contents.specs.declared.contents.Contents.{Contents}
 use Rattle.sheet.specs.Writing.{tariff_bytes, line_bytes, table_bytes, sheet_of, write_refusal}
 use Rattle.contents.specs.declared.contents.Phase.{Phase}
@@ -49,6 +54,26 @@ length_sheet b =
     let tariffs = table_bytes tariff_bytes 1 b.tariffs in
     let lines = table_bytes line_bytes 1 b.lines.states in
     omega (arith, length-append tariffs (lines ++ end_record), length-append lines end_record)
+
+-- the records of a table are as long as their number times the longest, at most
+table_most : {A : Type 0} (bytes : A → ℕ → List ℕ) (most : ℕ) → ((x : A) (n : ℕ) → length (bytes x n) ≤ most) → (n : ℕ) (xs : List A) → length (table_bytes bytes n xs) ≤ most * length xs
+table_most bytes most each n [] = omega arith
+table_most bytes most each n (x ∷ xs) =
+    omega (arith, length-append (bytes x n) (table_bytes bytes (n + 1) xs), each x n, table_most bytes most each (n + 1) xs, mul-suc most (length xs))
+
+tariff_most : (o : Option Tariff) (n : ℕ) → length (tariff_bytes o n) ≤ 31
+tariff_most None n = omega arith
+tariff_most (Some t) n = omega (arith, length_tariff_record n (numbers_of t))
+
+line_most : (s : LineState) (n : ℕ) → length (line_bytes s n) ≤ 36
+line_most Free n = omega arith
+line_most (Live l) n = omega (arith, length_line_record n l)
+line_most (Withdrawn l) n = omega arith
+
+-- the longest sheet: every tariff and every line has a record
+pub sheet_most : (b : Contents) → length b.tariffs ≡ 64 → length b.lines.states ≡ 256 → length (sheet_of b) ≤ 11207
+sheet_most b tariffs lines =
+    omega (arith, length_sheet b, tariffs, lines, table_most tariff_bytes 31 tariff_most 1 b.tariffs, table_most line_bytes 36 line_most 1 b.lines.states)
 
 -- a book that is not blank is written where there is room
 pub write_taken : (b : Contents) (space : ℕ) → (b.phase ≡ Blank → ⊥) → length (sheet_of b) ≤ space → write_refusal b space ≡ None

@@ -1,5 +1,6 @@
 // Writing a tariff sheet into a space that is lent, each record from the byte where the one before it ended.
-ghost use Rattle.std.specs.Prelude.{◌≡◌, ℕ, ◌+◌, ◌*◌, ◌≤◌, List, length};
+ghost use Rattle.std.specs.Prelude.{◌≡◌, ℕ, ◌+◌, ◌*◌, ◌≤◌, List, length, ◌<◌, []};
+ghost use Rattle.classes.specs.Outcomes.{refusal};
 ghost use Rattle.contents.specs.Calls.{answered};
 ghost use Rattle.sheet.specs.Fields.{written};
 ghost use Rattle.sheet.specs.Writing.{live_line, tariff_bytes, line_bytes, table_bytes, sheet_of, write_refusal};
@@ -122,7 +123,8 @@ fn write_table<T: Listed>(table: &[T], space: &mut [u8], start: usize) -> usize
 }
 
 fn sheet_length(contents: &Contents) -> usize
-    ensures { result ≡ length (sheet_of contents.now) }
+    ensures value { result ≡ length (sheet_of contents.now) }
+    ensures longest { result ≤ LONGEST_SHEET }
 {
     let tariffs: &[Option<Tariff>] = &contents.tariffs;
     let lines: &[LineState] = &contents.lines.states;
@@ -133,6 +135,7 @@ fn sheet_length(contents: &Contents) -> usize
 pub fn write_sheet(contents: &Contents, space: &mut [u8]) -> Result<usize, SheetRefusal>
     ensures answer { outcome result ≡ answered (write_refusal contents.now (length space.old)) (length (sheet_of contents.now)) }
     ensures after { space.new ≡ left_by (write_refusal contents.now (length space.old)) space.old (written 0 (sheet_of contents.now) space.old) }
+    ensures longest { outcome result ≡ refusal (21, []) → length space.old < LONGEST_SHEET }
 {
     if let Phase::Blank = contents.phase {
         return Err(SheetRefusal::Book(Refusal::WrongPhase));

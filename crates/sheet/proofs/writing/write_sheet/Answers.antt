@@ -1,4 +1,4 @@
-use Rattle.std.proofs.Common.{◌≡◌, ◌+◌, ◌≤◌, ◌++◌, length, sym, refl, ap, ◌∙◌, arith, rules}
+use Rattle.std.proofs.Common.{◌≡◌, ℕ, ◌+◌, ◌≤◌, ◌++◌, length, sym, refl, ap, ◌∙◌, arith, rules}
 use Rattle.std.proofs.lemmas.List.{length-append}
 use Rattle.classes.specs.Outcomes.{accepted}
 use Rattle.contents.specs.Calls.{answered}
@@ -11,7 +11,7 @@ use Rattle.sheet.proofs.Lengths.{length_sheet, write_taken}
 use Rattle.sheet.proofs.writing.write_sheet.Goals as goal
 
 pub write_opening-place-requires : goal.write_opening-place-requires
-write_opening-place-requires c = omega (arith, length_sheet c.args.contents.now, c.sheet_length.ensures, c.if-space-sheet_length.false)
+write_opening-place-requires c = omega (arith, length_sheet c.args.contents.now, c.sheet_length.ensures.value, c.if-space-sheet_length.false)
 
 pub write_table-place-requires : goal.write_table-place-requires
 write_table-place-requires c =
@@ -19,7 +19,7 @@ write_table-place-requires c =
     record {
       numbered = search rules;
       few = search rules;
-      room = omega (arith, size, c.sheet_length.ensures, c.if-space-sheet_length.false, c.write_opening-place.ensures.value, c.write_opening-place.auto.space);
+      room = omega (arith, size, c.sheet_length.ensures.value, c.if-space-sheet_length.false, c.write_opening-place.ensures.value, c.write_opening-place.auto.space);
     }
 
 pub write_table-place-requires-2 : goal.write_table-place-requires-2
@@ -28,13 +28,13 @@ write_table-place-requires-2 c =
     record {
       numbered = search rules;
       few = search rules;
-      room = omega (arith, size, c.sheet_length.ensures, c.if-space-sheet_length.false, c.write_opening-place.ensures.value, c.write_opening-place.auto.space, c.write_table-place.ensures.value, c.write_table-place.auto.space);
+      room = omega (arith, size, c.sheet_length.ensures.value, c.if-space-sheet_length.false, c.write_opening-place.ensures.value, c.write_opening-place.auto.space, c.write_table-place.ensures.value, c.write_table-place.auto.space);
     }
 
 pub put-requires : goal.put-requires
 put-requires c =
     let size = length_sheet c.args.contents.now in
-    omega (arith, size, c.sheet_length.ensures, c.if-space-sheet_length.false, c.write_opening-place.ensures.value, c.write_opening-place.auto.space, c.write_table-place.ensures.value, c.write_table-place.auto.space, c.write_table-place-2.ensures.value, c.write_table-place-2.auto.space)
+    omega (arith, size, c.sheet_length.ensures.value, c.if-space-sheet_length.false, c.write_opening-place.ensures.value, c.write_opening-place.auto.space, c.write_table-place.ensures.value, c.write_table-place.auto.space, c.write_table-place-2.ensures.value, c.write_table-place-2.auto.space)
 
 pub returns : goal.returns
 unfolding sheet_of
@@ -44,7 +44,7 @@ returns c =
     let tariffs = table_bytes tariff_bytes 1 b.tariffs in
     let lines = table_bytes line_bytes 1 b.lines.states in
     let size = length_sheet b in
-    let room : length (sheet_of b) ≤ length c.args.space.now = omega (arith, c.sheet_length.ensures, c.if-space-sheet_length.false) in
+    let room : length (sheet_of b) ≤ length c.args.space.now = omega (arith, c.sheet_length.ensures.value, c.if-space-sheet_length.false) in
     let place-1 = c.write_opening-place.ensures.value in
     let place-2 : c.write_table-place.result ≡ c.write_opening-place.result + length tariffs = c.write_table-place.ensures.value in
     let place-3 : c.write_table-place-2.result ≡ c.write_table-place.result + length lines = c.write_table-place-2.ensures.value in
@@ -60,4 +60,5 @@ returns c =
     record {
       answer = ap accepted answer_length ∙ sym (ap (λ w. answered w (length (sheet_of b))) none);
       after = whole ∙ sym (ap (λ w. left_by w c.args.space.now (written 0 (sheet_of b) c.args.space.now)) none);
+      longest = λ e. absurd (let z : ◌≡◌ {A = ℕ} 0 1 = cc in omega (arith, z));
     }
