@@ -1,11 +1,12 @@
 -- The sheet of a sound book reads back: put and add take its tariffs and live lines in turn.
 use Rattle.std.proofs.Common.{◌≡◌, ℕ, zero, suc, ◌+◌, ◌-◌, ◌<◌, ◌≤◌, Bool, true, false, cond, not, ◌&&◌, eqb, leb, ◌≢◌, List, [], ◌∷◌, ◌++◌, length, get_or, drop, set, replicate, is_some, Some, None, Option, sym, refl, ap, ◌∙◌, subst, ⊎_elim, arith}
-use mathlib.Core.Bool.{Bool-set}
-use mathlib.Core.Logic.{∥∥₁_elim}
+use Rattle.std.proofs.Math.Bool.{Bool-set}
+use Rattle.std.proofs.Math.Logic.{∥∥₁_elim}
 use base.Stored.{Coded-set}
 use Rattle.std.proofs.lemmas.List.{drop_more, drop_all, get_or_past, map-id}
 use Rattle.std.proofs.lemmas.Bool.{and_from, cases_eq, cases_lt, eq-eqb, ne_eqb, le-leb, false≢true, true≢false}
 use Rattle.classes.specs.Outcomes.{Outcome, accepted, refusal}
+use Rattle.classes.proofs.Clash.{clash}
 use Rattle.tariff.specs.declared.terms.Tariff.{Tariff}
 use Rattle.tariff.specs.declared.terms.Terms.{Terms}
 use Rattle.tariff.specs.Ranges.{checked, numbers_of}
@@ -84,21 +85,21 @@ number_passes n high low fits = and_from (leb 1 n) (leb n high) (le-leb 1 n low)
 tariff_named : (b : Contents) → length b.tariffs ≡ 64 → (m : ℕ) (t : Tariff) → tariff_at b m ≡ Some t → tariff_number m ≡ true
 tariff_named b size m t e =
     ⊎_elim
-    (λ zero_m. absurd (let wrong : None ≡ Some t = rw (eq-eqb m 0 zero_m) at e in let z : ◌≡◌ {A = ℕ} 0 1 = cc in omega (arith, z)))
+    (λ zero_m. absurd (let wrong : None ≡ Some t = rw (eq-eqb m 0 zero_m) at e in clash cc))
     (λ ne. let here : get_or b.tariffs (m - 1) None ≡ Some t = rw (ne_eqb m 0 ne) at e in
     ⊎_elim
     (λ lt. number_passes m 64 (omega arith) (omega (arith, size)))
-    (λ past. absurd (let wrong : None ≡ Some t = sym (get_or_past b.tariffs (m - 1) None past) ∙ here in let z : ◌≡◌ {A = ℕ} 0 1 = cc in omega (arith, z)))
+    (λ past. absurd (let wrong : None ≡ Some t = sym (get_or_past b.tariffs (m - 1) None past) ∙ here in clash cc))
     (cases_lt (m - 1) (length b.tariffs)))
     (cases_eq m 0)
 
 live_back : (s : LineState) (l : Line) → live_only s ≡ Live l → s ≡ Live l
 live_back Free l e = e
 live_back (Live x) l e = e
-live_back (Withdrawn x) l e = absurd (let z : ◌≡◌ {A = ℕ} 0 1 = cc in omega (arith, z))
+live_back (Withdrawn x) l e = clash cc
 
 not_free : (l : Line) → Free ≡ Live l → ⊥
-not_free l e = let z : ◌≡◌ {A = ℕ} 0 1 = cc in omega (arith, z)
+not_free l e = clash cc
 
 -- a line that is kept below a place was live there
 kept_live : (k m : ℕ) (xs : List LineState) (l : Line) → state_at (kept live_only Free k xs) m ≡ Live l → (state_at xs m ≡ Live l) × (m ≤ k)

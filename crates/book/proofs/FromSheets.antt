@@ -2,6 +2,7 @@
 use Rattle.std.proofs.Common.{◌≡◌, ℕ, true, false, List, [], None, sym, refl, ap, ◌∙◌, subst, arith}
 use Rattle.std.proofs.lemmas.Bool.{both_ways}
 use Rattle.classes.specs.Outcomes.{Outcome, accepted, refusal}
+use Rattle.classes.proofs.Clash.{clash}
 use Rattle.lines.specs.declared.states.Line.{Line}
 use Rattle.contents.specs.declared.contents.Contents.{Contents}
 use Rattle.contents.specs.declared.contents.Phase.TheVariants.{Blank}
@@ -51,7 +52,7 @@ read_sound b bytes e = by (sheet_outcome bytes) refl (passed (in_phase Blank b) 
   where
     by : (o : Outcome Contents) → sheet_outcome bytes ≡ o → refused_in o ≡ None → Sound (contents_in o)
     by (accepted x) at none = sheet_sound bytes x at
-    by (refusal r) at none = absurd (let z : ◌≡◌ {A = ℕ} 0 1 = cc in omega (arith, z))
+    by (refusal r) at none = clash cc
 
 -- a read that is accepted has read the sheet
 pub read_accepted : (b : Contents) (bytes : List ℕ) → answered (read_refusal b bytes) (tt {0}) ≡ accepted (tt {0}) → (read_refusal b bytes ≡ None) × (sheet_outcome bytes ≡ accepted (sheet_contents bytes))
@@ -61,7 +62,7 @@ read_accepted b bytes e =
   where
     by : (o : Outcome Contents) → refused_in o ≡ None → o ≡ accepted (contents_in o)
     by (accepted x) h = refl
-    by (refusal r) h = absurd (let z : ◌≡◌ {A = ℕ} 0 1 = cc in omega (arith, z))
+    by (refusal r) h = clash cc
 
 -- an acceptable sheet is read into a blank book
 pub acceptable_read : (b held : Contents) (bytes : List ℕ) → in_phase Blank b ≡ true → Acceptable bytes held → read_refusal b bytes ≡ None

@@ -1,8 +1,9 @@
 -- Every accepted call leaves a sound book sound.
 use Rattle.std.proofs.Common.{◌≡◌, ℕ, ◌≤◌, true, false, ltb, ◌≢◌, ◌⊎◌, [], length, is_some, Some, None, Option, sym, refl, ◌∙◌, subst, inl, inr, ⊎_elim, arith, length-set}
-use lib.ListN.{length-replicate}
+use Rattle.std.proofs.lemmas.List.{length-replicate}
 use Rattle.std.proofs.lemmas.Bool.{both_ways, cases_eq, false≢true, true≢false}
 use Rattle.classes.specs.declared.refusal.Classes.{Classes}
+use Rattle.classes.proofs.Clash.{clash}
 use Rattle.tariff.specs.declared.terms.Tariff.{Tariff}
 use Rattle.tariff.specs.declared.terms.Terms.{Terms}
 use Rattle.tariff.specs.Ranges.{checked, numbers_of, InRange}
@@ -58,13 +59,13 @@ new_tariff n = empty_number None 64 n
 
 -- no number of a new book is live or withdrawn
 no_live : (n : ℕ) (l : Line) → line_at new_contents n ≡ Live l → ⊥
-no_live n l e = let both : Free ≡ Live l = sym (new_line n) ∙ e in let z : ◌≡◌ {A = ℕ} 0 1 = cc in omega (arith, z)
+no_live n l e = let both : Free ≡ Live l = sym (new_line n) ∙ e in clash cc
 
 no_withdrawn : (n : ℕ) (l : Line) → line_at new_contents n ≡ Withdrawn l → ⊥
-no_withdrawn n l e = let both : Free ≡ Withdrawn l = sym (new_line n) ∙ e in let z : ◌≡◌ {A = ℕ} 0 1 = cc in omega (arith, z)
+no_withdrawn n l e = let both : Free ≡ Withdrawn l = sym (new_line n) ∙ e in clash cc
 
 no_tariff : (n : ℕ) (t : Tariff) → tariff_at new_contents n ≡ Some t → ⊥
-no_tariff n t e = let both : None ≡ Some t = sym (new_tariff n) ∙ e in let z : ◌≡◌ {A = ℕ} 0 1 = cc in omega (arith, z)
+no_tariff n t e = let both : None ≡ Some t = sym (new_tariff n) ∙ e in clash cc
 
 pub new_sound : Sound new_contents
 new_sound = record {
@@ -191,7 +192,7 @@ module _ (b : Contents) (n : ℕ) (state : LineState) (range : line_number n ≡
 -- where no live line is in the way of a line, none claims a combination that it claims
 no_overlap : (o : Option ℕ) → overlap_with o ≡ None → o ≡ None
 no_overlap None e = refl
-no_overlap (Some n) e = absurd (let z : ◌≡◌ {A = ℕ} 0 1 = cc in omega (arith, z))
+no_overlap (Some n) e = clash cc
 
 pub clear_of_lines : (b : Contents) (l : Line) → overlap_refusal b l ≡ None → (m : ℕ) (y : Line) → line_at b m ≡ Live y → (k : Classes) → Combination b.counts k → claims l k ≡ true → claims y k ≡ true → ⊥
 clear_of_lines b l none m y live k kc cl cy =
@@ -206,11 +207,11 @@ same_withdrawn : (x y : Line) → Withdrawn x ≡ Withdrawn y → x ≡ y
 same_withdrawn x y e = cc
 
 not_both : (x y : Line) → Live x ≡ Withdrawn y → ⊥
-not_both x y e = let z : ◌≡◌ {A = ℕ} 0 1 = cc in omega (arith, z)
+not_both x y e = clash cc
 
 neither : (x : Line) → (Free ≡ Live x) ⊎ (Free ≡ Withdrawn x) → ⊥
-neither x (inl e) = let z : ◌≡◌ {A = ℕ} 0 1 = cc in omega (arith, z)
-neither x (inr e) = let z : ◌≡◌ {A = ℕ} 0 1 = cc in omega (arith, z)
+neither x (inl e) = clash cc
+neither x (inr e) = clash cc
 
 some_value : {A : Type 0} (o : Option A) → is_some o ≡ true → (x : A) × (o ≡ Some x)
 some_value (Some x) h = (x, refl)

@@ -1,18 +1,23 @@
 -- What a call leaves in a book is sound.
 use Rattle.std.proofs.Common.{◌≡◌, ℕ, None, Option, sym, subst}
-use mathlib.Core.Logic.{∥∥₁_map}
+use Rattle.std.proofs.Math.Logic.{∥∥₁_map}
 use Rattle.tariff.specs.declared.terms.Terms.{Terms}
 use Rattle.tariff.specs.Ranges.{checked}
 use Rattle.lines.specs.declared.sets.Counts.{Counts}
 use Rattle.lines.specs.declared.states.Line.{Line}
 use Rattle.contents.specs.declared.contents.Contents.{Contents}
+use Rattle.contents.specs.Contents.{new_contents}
 use Rattle.contents.specs.Calls.{Refused, settled, open_refusal, opened, put_refusal, stored, add_refusal, added, withdraw_refusal, withdrawn, restore_refusal, restored, strike_refusal, struck, issue_refusal, issued, reopen_refusal, reopened}
 use Rattle.book.specs.Sound.{Sound}
-use Rattle.book.proofs.Keeps.{settled_sound, open_sound, put_sound, add_sound, withdraw_sound, restore_sound, strike_sound, issue_sound, reopen_sound}
+use Rattle.book.proofs.Keeps.{new_sound, settled_sound, open_sound, put_sound, add_sound, withdraw_sound, restore_sound, strike_sound, issue_sound, reopen_sound}
 
 -- what a call leaves is sound: it was, and an accepted call keeps it so
 left_sound : (r : Option Refused) (before after held : Contents) → held ≡ settled r before after → ∥ Sound before ∥₁ → (Sound before → r ≡ None → Sound after) → ∥ Sound held ∥₁
 left_sound r before after held e was keeps = ∥∥₁_map was (λ s. subst Sound (sym e) (settled_sound r before after s (keeps s)))
+
+-- so is what a new book holds
+pub new_left : (held : Contents) → held ≡ new_contents → ∥ Sound held ∥₁
+new_left held e = ∣ subst Sound (sym e) new_sound ∣₁
 
 module _ (b held : Contents) where
   pub open_left : (c : Counts) → held ≡ settled (open_refusal b c) b (opened c b) → ∥ Sound b ∥₁ → ∥ Sound held ∥₁

@@ -1,7 +1,7 @@
 -- In an issued book every combination has one line, and that line has a tariff.
 use Rattle.std.proofs.Common.{◌≡◌, ℕ, true, false, eqb, ltb, [], ◌∷◌, Some, None, Option, unwrap_or, sym, refl, ap, ◌∙◌, subst, arith}
 use mathlib.Core.HLevel.{⊥_prop}
-use mathlib.Core.Logic.{∥∥₁_elim}
+use Rattle.std.proofs.Math.Logic.{∥∥₁_elim}
 use native.Mathlib.Nat.{ℕ_set}
 use Rattle.std.proofs.lemmas.Bool.{both_ways, eqb-true, ltb-true}
 use Rattle.classes.specs.declared.refusal.Classes.{Classes}
@@ -20,7 +20,9 @@ use Rattle.contents.specs.declared.contents.Phase.TheVariants.{Issued}
 use Rattle.charging.specs.declared.pricing.Price.{Price}
 use Rattle.contents.specs.Contents.{in_phase, tariff_at, line_at}
 use Rattle.contents.specs.Calls.{Refused, answered}
-use Rattle.charging.specs.Prices.{Meanings, classes_of, amounts_of, amounts_in_range, price_refusal, by_tariff, by_state, by_number, price_of, priced, OneLine}
+use Rattle.classes.specs.Determinants.{Meanings}
+use Rattle.classes.proofs.Clash.{clash}
+use Rattle.charging.specs.Prices.{classes_of, amounts_of, amounts_in_range, price_refusal, by_tariff, by_state, by_number, price_of, priced, OneLine}
 use Rattle.book.specs.Sound.{Sound}
 use Rattle.contents.proofs.Refused.{answered_accepted, answered_refused, passed}
 
@@ -62,13 +64,13 @@ module _ (b : Contents) (k : Classes) (a : Amounts) where
     pub charged : p.charge ≡ charge_of tariff a
 
   from_tariff : (n : ℕ) (l : Line) (o : Option Tariff) (p : Price) → line_at b n ≡ Live l → claims l k ≡ true → tariff_at b l.tariff ≡ o → by_tariff n l a o ≡ Some p → FromLine p
-  from_tariff n l None p live claim put e = absurd (let z : ◌≡◌ {A = ℕ} 0 1 = cc in omega (arith, z))
+  from_tariff n l None p live claim put e = clash cc
   from_tariff n l (Some t) p live claim put e =
       let same : p ≡ record { line = n; tariff = l.tariff; charge = charge_of t a } = cc in
       rw same (record { line = l; live = live; claiming = claim; tariff_number = refl; tariff = t; put = put; charged = refl })
 
   pub from_line : (o : Option ℕ) (p : Price) → first_claim b.lines.states k ≡ o → by_number b a o ≡ Some p → FromLine p
-  from_line None p found e = absurd (let z : ◌≡◌ {A = ℕ} 0 1 = cc in omega (arith, z))
+  from_line None p found e = clash cc
   from_line (Some n) p found e =
       let lowest : Lowest (state_claims k) b.lines.states n = lowest_found (state_claims k) refl b.lines.states n found in
       let here = live_line k (line_at b n) lowest.passes in
@@ -90,8 +92,7 @@ module _ (b : Contents) (k : Classes) (a : Amounts) where
           let support = s.live n here.0 here.1 in
           let no_tariff : by_tariff n here.0 a (tariff_at b here.0.tariff) ≡ None = subst (λ x. by_state b a n x ≡ None) here.1 e in
           let no_price : by_tariff n here.0 a (Some support.tariff) ≡ None = subst (λ x. by_tariff n here.0 a x ≡ None) support.put no_tariff in
-          let z : ◌≡◌ {A = ℕ} 0 1 = cc in
-          omega (arith, z)
+          clash cc
 
   -- and the line of that price is the only one
   pub one_line : (p : Price) → ∥ Sound b ∥₁ → Combination b.counts k → FromLine p → OneLine b k a p

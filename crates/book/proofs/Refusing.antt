@@ -1,10 +1,11 @@
 -- What a refusal's number says: the tests before it were passed, and its values are what they are said to be.
 use Rattle.std.proofs.Common.{◌≡◌, ℕ, ◌+◌, Bool, true, ltb, [], ◌∷◌, is_some, Some, None, Option, refl, ap, subst, ⊎_elim, arith}
-use mathlib.Core.Bool.{Bool-set}
-use mathlib.Core.Logic.{∥∥₁_elim}
+use Rattle.std.proofs.Math.Bool.{Bool-set}
+use Rattle.std.proofs.Math.Logic.{∥∥₁_elim}
 use Rattle.std.proofs.lemmas.Bool.{both_ways, cases_lt, false≢true}
 use Rattle.classes.specs.declared.refusal.Classes.{Classes}
 use Rattle.classes.specs.Outcomes.{accepted, refusal}
+use Rattle.classes.proofs.Clash.{clash}
 use Rattle.lines.specs.declared.states.Line.{Line}
 use Rattle.lines.specs.declared.states.LineState.{LineState}
 use Rattle.lines.specs.declared.states.LineState.TheVariants.{Free, Live, Withdrawn}
@@ -26,7 +27,7 @@ use Rattle.contents.proofs.Refused.{answered_refused, answered_accepted, passed,
 use Rattle.book.proofs.Keeps.{draft_only}
 
 overlapping : (o : Option ℕ) (n : ℕ) → overlap_with o ≡ Some (11, n ∷ []) → o ≡ Some n
-overlapping None n e = absurd (let z : ◌≡◌ {A = ℕ} 0 1 = cc in omega (arith, z))
+overlapping None n e = clash cc
 overlapping (Some m) n e = let same = (same_refusal 11 11 (m ∷ []) (n ∷ []) e).1 in cc
 
 pub meeting : (l : Line) (s : LineState) → state_meets l s ≡ true → (y : Line) × (s ≡ Live y) × (lines_meet l y ≡ true)
@@ -75,7 +76,7 @@ restore_overlap b number l n s at e =
     blocked
 
 gap_of : (o : Option Classes) (k : Classes) → gap_with o ≡ Some (12, gap_values k) → o ≡ Some k
-gap_of None k e = absurd (let z : ◌≡◌ {A = ℕ} 0 1 = cc in omega (arith, z))
+gap_of None k e = clash cc
 gap_of (Some j) k e =
     let values = (same_refusal 12 12 (gap_values j) (gap_values k) e).1 in
     let v : j.vehicle ≡ k.vehicle = cc in

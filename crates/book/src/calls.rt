@@ -1,4 +1,5 @@
-// The calls of a book. Each answers what its definition gives, for every contents and every argument.
+// The calls of a book. Each answers what its definition gives, for every contents and every argument. A call of the contents
+// stands beside each, since contents have no invariant to keep, and those of a book are never lent for writing.
 ghost use Rattle.std.specs.Prelude.{◌≡◌, ℕ, ◌+◌, [], ◌∷◌};
 ghost use Rattle.classes.specs.declared.refusal.Classes.{Classes};
 ghost use Rattle.classes.specs.Outcomes.{accepted, refusal};
@@ -17,6 +18,7 @@ use tariff::Terms;
 
 impl Book {
     // A blank book of version 0 with nothing in it.
+    #[tactic(auto, using(crate::proofs::Left::new_left))]
     pub fn new() -> Book
         ensures { result.contents ≡ new_contents }
     {
@@ -33,6 +35,7 @@ impl Book {
     }
 
     // Makes a draft of a blank book, with this many classes of each determinant.
+    #[tactic(auto, using(crate::proofs::Left::open_left))]
     pub fn open(&mut self, counts: Counts) -> Result<(), Refusal>
         ensures answer { outcome result ≡ answered (open_refusal self.old.contents counts) tt }
         ensures after { self.new.contents ≡ settled (open_refusal self.old.contents counts) self.old.contents (opened counts self.old.contents) }
@@ -41,6 +44,7 @@ impl Book {
     }
 
     // Sets or replaces a tariff.
+    #[tactic(auto, using(crate::proofs::Left::put_left))]
     pub fn put(&mut self, number: u8, terms: Terms) -> Result<(), Refusal>
         ensures answer { outcome result ≡ answered (put_refusal self.old.contents number terms) tt }
         ensures after { self.new.contents ≡ settled (put_refusal self.old.contents number terms) self.old.contents (stored number (checked terms) self.old.contents) }
@@ -49,7 +53,7 @@ impl Book {
     }
 
     // Makes a free number live, with a line that overlaps no live line.
-    #[tactic(auto, using(crate::proofs::Refusing::add_overlap))]
+    #[tactic(auto, using(crate::proofs::Left::add_left, crate::proofs::Refusing::add_overlap))]
     pub fn add(&mut self, number: u16, line: Line) -> Result<(), Refusal>
         ensures answer { outcome result ≡ answered (add_refusal self.old.contents number line) tt }
         ensures after { self.new.contents ≡ settled (add_refusal self.old.contents number line) self.old.contents (added number line self.old.contents) }
@@ -59,6 +63,7 @@ impl Book {
     }
 
     // Takes a live line out of use; its number stays taken.
+    #[tactic(auto, using(crate::proofs::Left::withdraw_left))]
     pub fn withdraw(&mut self, number: u16) -> Result<(), Refusal>
         ensures answer { outcome result ≡ answered (withdraw_refusal self.old.contents number) tt }
         ensures after { self.new.contents ≡ settled (withdraw_refusal self.old.contents number) self.old.contents (withdrawn number self.old.contents) }
@@ -67,7 +72,7 @@ impl Book {
     }
 
     // Makes a withdrawn line live again, where it overlaps no live line.
-    #[tactic(auto, using(crate::proofs::Refusing::restore_overlap))]
+    #[tactic(auto, using(crate::proofs::Left::restore_left, crate::proofs::Refusing::restore_overlap))]
     pub fn restore(&mut self, number: u16) -> Result<(), Refusal>
         ensures answer { outcome result ≡ answered (restore_refusal self.old.contents number) tt }
         ensures after { self.new.contents ≡ settled (restore_refusal self.old.contents number) self.old.contents (restored number self.old.contents) }
@@ -77,6 +82,7 @@ impl Book {
     }
 
     // Gives up a withdrawn line, so that its number is free again.
+    #[tactic(auto, using(crate::proofs::Left::strike_left))]
     pub fn strike(&mut self, number: u16) -> Result<(), Refusal>
         ensures answer { outcome result ≡ answered (strike_refusal self.old.contents number) tt }
         ensures after { self.new.contents ≡ settled (strike_refusal self.old.contents number) self.old.contents (struck number self.old.contents) }
@@ -85,6 +91,7 @@ impl Book {
     }
 
     // Issues the next version of a draft in which every combination is claimed.
+    #[tactic(auto, using(crate::proofs::Left::issue_left, crate::proofs::Refusing::issue_whole))]
     pub fn issue(&mut self) -> Result<u8, Refusal>
         ensures answer { outcome result ≡ answered (issue_refusal self.old.contents) (self.old.contents.version + 1) }
         ensures after { self.new.contents ≡ settled (issue_refusal self.old.contents) self.old.contents (issued self.old.contents) }
@@ -95,6 +102,7 @@ impl Book {
     }
 
     // Makes a draft of an issued book.
+    #[tactic(auto, using(crate::proofs::Left::reopen_left))]
     pub fn reopen(&mut self) -> Result<(), Refusal>
         ensures answer { outcome result ≡ answered (reopen_refusal self.old.contents) tt }
         ensures after { self.new.contents ≡ settled (reopen_refusal self.old.contents) self.old.contents (reopened self.old.contents) }

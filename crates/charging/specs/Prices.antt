@@ -4,7 +4,7 @@ use Rattle.std.specs.Prelude.{◌≡◌, ℕ, Bool, true, ◌&&◌, [], ◌∷�
 use Rattle.std.specs.Option.{unwrap_or}
 use Rattle.classes.specs.declared.refusal.Classes.{Classes}
 use Rattle.classes.specs.declared.usage.Usage.{Usage}
-use Rattle.classes.specs.Determinants.{Meaning}
+use Rattle.classes.specs.Determinants.{Meanings}
 use Rattle.tariff.specs.declared.charge.Amounts.{Amounts}
 use Rattle.tariff.specs.declared.terms.Tariff.{Tariff}
 use Rattle.tariff.specs.Fees.{charge_of}
@@ -26,16 +26,6 @@ amounts_of u = record { metres = u.metres; minutes = u.minutes; events = u.event
 
 abbrev pub amounts_in_range : Usage → Bool
 amounts_in_range u = nat_le u.metres 10000000 && nat_le u.minutes 10000000 && nat_le u.events 10000000
-
--- what four determinants mean
-pub record Meanings : Type 0 where
-  pub vehicle : Meaning
-  pub time : Meaning
-  pub location : Meaning
-  pub user : Meaning
-
-abbrev pub meanings : Meaning → Meaning → Meaning → Meaning → Meanings
-meanings v t l u = record { vehicle = v; time = t; location = l; user = u }
 
 abbrev pub classes_of : Meanings → Usage → Classes
 classes_of d u = record { vehicle = d.vehicle.class u; time = d.time.class u; location = d.location.class u; user = d.user.class u }

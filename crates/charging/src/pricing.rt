@@ -1,13 +1,16 @@
 // What a usage costs: the tests before a price, and the price of the line that claims its classes.
-ghost use Rattle.std.specs.Prelude.{◌≡◌, [], ◌∷◌, if◌then◌else◌, nat_eq};
+ghost use Rattle.std.specs.Prelude.{◌≡◌, [], ◌∷◌, Some, if◌then◌else◌, nat_eq};
 ghost use Rattle.classes.specs.Outcomes.{accepted, refusal, role_number};
+ghost use Rattle.classes.specs.Determinants.{Meanings, meanings_of};
 ghost use Rattle.contents.specs.Calls.{answered};
-ghost use Rattle.charging.specs.Prices.{Meanings, amounts_of, amounts_in_range, meanings, classes_of, price_refusal, price_of};
+ghost use Rattle.charging.specs.Prices.{amounts_of, amounts_in_range, classes_of, price_refusal, price_of};
+ghost use Rattle.charging.specs.Text.{price_text};
 ghost use Rattle.contents.specs.Refusals.{outcome};
 
-use classes::{Classes, Determinant, Role, Usage, classify};
+use classes::{Classes, Determinant, Determinants, Role, Usage};
 use contents::{Contents, Phase, Refusal};
 use lines::LineState;
+use std::fmt;
 use tariff::{Amounts, Charge};
 
 // What a usage costs, by which line and which tariff.
@@ -18,10 +21,24 @@ pub struct Price {
     pub charge: Charge,
 }
 
+// "line 1 tariff 1 fee 100 vat 19"
+impl fmt::Display for Price {
+    ghost output = { λ p. Some (price_text p) };
+
+    fn fmt<W: fmt::Write>(&self, f: &mut fmt::Formatter<W>) -> fmt::Result {
+        let Price {
+            line,
+            tariff,
+            charge,
+        } = *self;
+        write!(f, "line {line} tariff {tariff} {charge}")
+    }
+}
+
 // The most metres, minutes or events that are priced.
 pub const HIGHEST_AMOUNT: u32 = 10_000_000;
 
-// What was driven, in each measure.
+// What was driven, in each measure. A function, since `From` may be written only beside one of its two types.
 pub fn amounts_of(usage: &Usage) -> Amounts
     ensures { result ≡ amounts_of usage.now }
 {
@@ -54,23 +71,28 @@ fn same_count<D: Determinant>(role: Role, determinant: &D, count: u8) -> Result<
 // The classes of a usage that may be priced by these contents.
 pub fn priced_classes<V: Determinant, T: Determinant, L: Determinant, U: Determinant>(
     contents: &Contents,
-    vehicle: &V,
-    time: &T,
-    location: &L,
-    user: &U,
+    determinants: &Determinants<V, T, L, U>,
     usage: &Usage,
 ) -> Result<Classes, Refusal>
-    ensures { let d : Meanings = meanings (V.meaning vehicle.now) (T.meaning time.now) (L.meaning location.now) (U.meaning user.now) in outcome result ≡ answered (price_refusal contents.now d usage.now) (classes_of d usage.now) }
+    ensures { let d : Meanings = meanings_of V.meaning T.meaning L.meaning U.meaning determinants.now in outcome result ≡ answered (price_refusal contents.now d usage.now) (classes_of d usage.now) }
 {
     contents.expect(Phase::Issued)?;
-    same_count(Role::Vehicle, vehicle, contents.counts.vehicles)?;
-    same_count(Role::Time, time, contents.counts.times)?;
-    same_count(Role::Location, location, contents.counts.locations)?;
-    same_count(Role::User, user, contents.counts.users)?;
+    same_count(
+        Role::Vehicle,
+        determinants.vehicle,
+        contents.counts.vehicles,
+    )?;
+    same_count(Role::Time, determinants.time, contents.counts.times)?;
+    same_count(
+        Role::Location,
+        determinants.location,
+        contents.counts.locations,
+    )?;
+    same_count(Role::User, determinants.user, contents.counts.users)?;
     if !amounts_in_range(usage) {
         return Err(Refusal::AmountOutOfRange);
     }
-    Ok(classify(vehicle, time, location, user, usage)?)
+    Ok(determinants.classify(usage)?)
 }
 
 // The price by the lowest live line that claims the classes, if there is one and its tariff was put.

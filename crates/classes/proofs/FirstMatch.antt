@@ -1,24 +1,36 @@
 -- One entry of a list after another.
-use Rattle.std.proofs.Common.{◌≡◌, ℕ, zero, suc, ◌+◌, ◌<◌, Bool, true, false, ◌&&◌, leb, List, [], ◌∷◌, length, get_or, drop, sym, refl, ⊎_elim, arith}
+use Rattle.std.proofs.Common.{◌≡◌, ℕ, zero, suc, ◌+◌, ◌<◌, ◌≤◌, Bool, true, false, ◌&&◌, leb, List, [], ◌∷◌, length, get_or, drop, Some, None, sym, refl, ⊎_elim, arith}
 use Rattle.std.proofs.lemmas.Bool.{both_ways, and_parts, and_from, cases_Bool, leb-true, le-leb}
+use Rattle.std.proofs.lemmas.Bool.Decides.{nat_tests}
+use Rattle.classes.specs.Determinants.{class_given}
 use Rattle.classes.specs.Entries.{usable, first_class, Applies, FirstApplies}
 use Rattle.classes.proofs.Steps.{drop_read}
 
+-- a class that is given, and none
+pub some_given : (class n : ℕ) → 1 ≤ class → class ≡ n → Some class ≡ class_given n
+some_given class n low e = grind (arith, nat_tests)
+
+pub none_given : (n : ℕ) → 0 ≡ n → None ≡ class_given n
+none_given n e = rw (sym e) refl
+
 module _ {E : Type 0} (given : E → ℕ) (covers : E → Bool) (count : ℕ) where
-  module _ (es : List E) (i : ℕ) (e : E) (within : i < length es) (read : e ≡ get_or es i e) where
-    -- the entry at i decides
-    pub first_class_here : true ≡ (usable count (given e) && covers e) → given e ≡ first_class given covers count (drop i es)
-    first_class_here h = rw (drop_read es i e within read) (rw (sym h) refl)
-
-    -- the entry at i is passed over
-    pub first_class_next : false ≡ (usable count (given e) && covers e) → first_class given covers count (drop i es) ≡ first_class given covers count (drop (i + 1) es)
-    first_class_next h = rw (drop_read es i e within read) (rw (sym h) refl)
-
   applies : (e : E) → (usable count (given e) && covers e) ≡ true → Applies given covers count e
   applies e h =
       let both = and_parts (usable count (given e)) (covers e) h in
       let range = and_parts (leb 1 (given e)) (leb (given e) count) both.0 in
       record { low = leb-true 1 (given e) range.0; high = leb-true (given e) count range.1; covering = both.1 }
+
+  module _ (es : List E) (i : ℕ) (e : E) (within : i < length es) (read : e ≡ get_or es i e) where
+    -- the entry at i decides
+    pub first_class_here : true ≡ (usable count (given e) && covers e) → given e ≡ first_class given covers count (drop i es)
+    first_class_here h = rw (drop_read es i e within read) (rw (sym h) refl)
+
+    pub first_class_low : true ≡ (usable count (given e) && covers e) → 1 ≤ given e
+    first_class_low h = (applies e (sym h)).low
+
+    -- the entry at i is passed over
+    pub first_class_next : false ≡ (usable count (given e) && covers e) → first_class given covers count (drop i es) ≡ first_class given covers count (drop (i + 1) es)
+    first_class_next h = rw (drop_read es i e within read) (rw (sym h) refl)
 
   tested : (e : E) → Applies given covers count e → (usable count (given e) && covers e) ≡ true
   tested e h = and_from _ _ (and_from _ _ (le-leb 1 (given e) h.low) (le-leb (given e) count h.high)) h.covering

@@ -1,3 +1,5 @@
+pub mod Clash
 pub mod FirstMatch
+pub mod Orders
 pub mod SpanOrder
 pub mod Steps

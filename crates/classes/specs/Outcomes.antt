@@ -5,6 +5,8 @@ use Rattle.classes.specs.declared.refusal.Refusal.{Refusal}
 use Rattle.classes.specs.declared.refusal.Refusal.TheVariants.{NoClass}
 use Rattle.classes.specs.declared.refusal.Role.{Role}
 use Rattle.classes.specs.declared.refusal.Role.TheVariants.{Vehicle, Time, Location, User}
+use Rattle.classes.specs.declared.usage.Usage.{Usage}
+use Rattle.classes.specs.Determinants.{Meanings}
 
 pub data Outcome (A : Type 0) : Type 0 where
   accepted : A → Outcome A
@@ -41,3 +43,7 @@ classes_outcome v t l u =
     (cond (l == 0) (refusal (16, 3 ∷ []))
     (cond (u == 0) (refusal (16, 4 ∷ []))
     (accepted (record { vehicle = v; time = t; location = l; user = u })))))
+
+-- what four determinants answer of a usage
+abbrev pub classified : Meanings → Usage → Outcome Classes
+classified d u = classes_outcome (d.vehicle.class u) (d.time.class u) (d.location.class u) (d.user.class u)

@@ -1,6 +1,10 @@
-// A list of entries, each with a class: the first entry that covers what is asked gives the class.
+// Lists of entries, each with a class: the first entry that covers what is asked gives the class.
 ghost use Rattle.std.specs.Prelude.{◌≡◌, ℕ, Bool, ◌&&◌};
-ghost use Rattle.classes.specs.Entries.{usable, first_class, FirstApplies};
+ghost use Rattle.classes.specs.Determinants.{class_given, class_number};
+ghost use Rattle.classes.specs.Entries.{usable, first_class, by_entries, FirstApplies};
+
+use crate::determinant::Determinant;
+use crate::usage::Usage;
 
 pub trait Entry<Q> {
     // The class that the entry gives.
@@ -24,15 +28,34 @@ fn decides<Q, E: Entry<Q>>(count: u8, entry: &E, asked: &Q) -> bool
     class >= 1 && class <= count && entry.covers(asked)
 }
 
-// The class of the first entry that decides, or 0 where none does.
-pub fn first_match<Q, E: Entry<Q>>(count: u8, entries: &[E], asked: &Q) -> u8
-    ensures value { result ≡ first_class E.given (λ e. E.covering e asked.now) count entries.now }
-    ensures meaning { FirstApplies E.given (λ e. E.covering e asked.now) count entries.now result }
+// The class of the first entry that decides, if one does.
+pub fn first_match<Q, E: Entry<Q>>(count: u8, entries: &[E], asked: &Q) -> Option<u8>
+    ensures value { result ≡ class_given (first_class E.given (λ e. E.covering e asked.now) count entries.now) }
+    ensures meaning { FirstApplies E.given (λ e. E.covering e asked.now) count entries.now (class_number result) }
 {
     for entry in entries {
         if decides(count, entry, asked) {
-            return entry.class();
+            return Some(entry.class());
         }
     }
-    0
+    None
+}
+
+// Classes by the first entry that covers the usage.
+#[derive_where(Clone, Copy)]
+pub struct Listed<'a, E> {
+    pub count: u8,
+    pub entries: &'a [E],
+}
+
+impl<E: Entry<Usage>> Determinant for Listed<'_, E> {
+    ghost meaning = { λ d. by_entries E.given E.covering d.count d.entries.now };
+
+    fn count(&self) -> u8 {
+        self.count
+    }
+
+    fn class(&self, usage: &Usage) -> Option<u8> {
+        first_match(self.count, self.entries, usage)
+    }
 }

@@ -1,13 +1,15 @@
 // Keys in an order, and the two keys of a usage: its charge object and its contract.
 ghost use Rattle.std.specs.Prelude.{◌≡◌, ℕ, Bool, true, false, List};
-ghost use Rattle.std.proofs.Common.{ap};
+ghost use Rattle.std.proofs.Common.{ap, arith};
+ghost use Rattle.std.proofs.lemmas.Bool.Decides.{nat_tests};
 ghost use Rattle.classes.specs.declared.usage.Usage.{Usage};
-ghost use Rattle.classes.specs.Keys.{object_upto, object_key, byte_before, contract_upto, contract_key};
-ghost use Rattle.classes.specs.Orders.{object_total, object_same, object_carries, bytes_total, bytes_same, bytes_carries};
+ghost use Rattle.classes.specs.Keys.{object_upto, object_key, contract_upto, contract_key};
+ghost use Rattle.classes.specs.Orders.{bytes_total, bytes_same, bytes_carries};
 ghost use Rattle.classes.specs.declared.keys.ContractKey.{ContractKey};
 
 use crate::usage::Usage;
 
+// Not `Ord`, whose laws come all at once: who uses a key names the laws that it needs.
 pub trait Key: Copy {
     // Whether a key is not after another.
     ghost upto: { Self → Self → Bool };
@@ -34,7 +36,7 @@ pub trait UsageKey: Key {
 }
 
 // A charge object, by its partition and then its number.
-#[derive(Clone, Copy)]
+#[derive(Clone, Copy, PartialEq, Eq, PartialOrd, Ord)]
 pub struct ObjectKey {
     pub partition: u8,
     pub object: u32,
@@ -43,18 +45,14 @@ pub struct ObjectKey {
 impl Key for ObjectKey {
     ghost upto = { object_upto };
 
-    ghost total = { object_total };
+    ghost total = { λ a b h. Prim.grind (arith, nat_tests) };
 
-    ghost same = { object_same };
+    ghost same = { λ a b h k. Prim.grind (arith, nat_tests) };
 
-    ghost carries = { object_carries };
+    ghost carries = { λ a b c h k. Prim.grind (arith, nat_tests) };
 
     fn not_after(&self, other: &ObjectKey) -> bool {
-        if self.partition == other.partition {
-            self.object <= other.object
-        } else {
-            self.partition < other.partition
-        }
+        *self <= *other
     }
 }
 
@@ -75,16 +73,6 @@ pub struct ContractKey {
     pub text: [u8; Usage::CONTRACT_BYTES],
 }
 
-// Whether a byte comes before another, where they differ.
-fn byte_before(a: u8, b: u8) -> Option<bool>
-    ensures { result ≡ byte_before a b }
-{
-    if a == b {
-        return None;
-    }
-    Some(a < b)
-}
-
 impl Key for ContractKey {
     ghost upto = { contract_upto };
 
@@ -95,12 +83,7 @@ impl Key for ContractKey {
     ghost carries = { λ a b c. bytes_carries a.text b.text c.text };
 
     fn not_after(&self, other: &ContractKey) -> bool {
-        for i in 0..Usage::CONTRACT_BYTES {
-            if let Some(before) = byte_before(self.text[i], other.text[i]) {
-                return before;
-            }
-        }
-        true
+        self.text <= other.text
     }
 }
 

@@ -11,11 +11,11 @@ mod usage;
 mod vehicles;
 mod whole;
 
-pub use determinant::Determinant;
-pub use entries::{Entry, first_match};
+pub use determinant::{Determinant, Determinants};
+pub use entries::{Entry, Listed, first_match};
 pub use keys::{ContractKey, Key, ObjectKey, UsageKey};
-pub use refusal::{Classes, Refusal, Role, classify};
-pub use spans::{Locations, Span, Spans, Users, in_order};
+pub use refusal::{Classes, Refusal, Role};
+pub use spans::{Locations, Span, Users, in_order};
 pub use times::{Period, Times};
 pub use usage::{Instant, Usage};
 pub use vehicles::{Band, Rule, Vehicles};

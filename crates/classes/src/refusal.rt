@@ -1,19 +1,20 @@
 // The four classes of a usage, or which determinant gives none.
 ghost use Rattle.std.specs.Prelude.{◌≡◌, Some};
 ghost use Rattle.classes.specs.Text.{classes_text, refusal_text};
-ghost use Rattle.classes.specs.Outcomes.{outcome, numbered, role_number, class_outcome, classes_outcome};
+ghost use Rattle.classes.specs.Determinants.{meanings_of};
+ghost use Rattle.classes.specs.Outcomes.{outcome, numbered, role_number, class_outcome, classified};
 
-use crate::determinant::Determinant;
+use crate::determinant::{Determinant, Determinants};
 use crate::usage::Usage;
 use std::fmt;
 
 // The place of a determinant among the four.
 #[derive(Clone, Copy)]
 pub enum Role {
-    Vehicle,
-    Time,
-    Location,
-    User,
+    Vehicle = 1,
+    Time = 2,
+    Location = 3,
+    User = 4,
 }
 
 #[derive(Clone, Copy)]
@@ -30,19 +31,16 @@ pub struct Classes {
 }
 
 impl Role {
+    // A method, as a refusal's number, which it stands beside.
     pub fn number(self) -> u8
         ensures { result ≡ role_number self }
     {
-        match self {
-            Role::Vehicle => 1,
-            Role::Time => 2,
-            Role::Location => 3,
-            Role::User => 4,
-        }
+        self as u8
     }
 }
 
 impl Refusal {
+    // A method and no `From`, which would look as if the number said all: a refusal carries values beside it.
     pub fn number(self) -> u8
         ensures { result ≡ (numbered self).0 }
     {
@@ -85,30 +83,19 @@ impl fmt::Display for Refusal {
 fn class_by<D: Determinant>(role: Role, determinant: &D, usage: &Usage) -> Result<u8, Refusal>
     ensures { outcome result ≡ class_outcome (role_number role) ((D.meaning determinant.now).class usage.now) }
 {
-    match determinant.class(usage) {
-        0 => Err(Refusal::NoClass(role)),
-        class => Ok(class),
-    }
+    determinant.class(usage).ok_or(Refusal::NoClass(role))
 }
 
-// The classes that four determinants give a usage, or the first of them that gives none.
-pub fn classify<V: Determinant, T: Determinant, L: Determinant, U: Determinant>(
-    vehicle: &V,
-    time: &T,
-    location: &L,
-    user: &U,
-    usage: &Usage,
-) -> Result<Classes, Refusal>
-    ensures { outcome result ≡ classes_outcome ((V.meaning vehicle.now).class usage.now) ((T.meaning time.now).class usage.now) ((L.meaning location.now).class usage.now) ((U.meaning user.now).class usage.now) }
-{
-    let vehicle = class_by(Role::Vehicle, vehicle, usage)?;
-    let time = class_by(Role::Time, time, usage)?;
-    let location = class_by(Role::Location, location, usage)?;
-    let user = class_by(Role::User, user, usage)?;
-    Ok(Classes {
-        vehicle,
-        time,
-        location,
-        user,
-    })
+impl<V: Determinant, T: Determinant, L: Determinant, U: Determinant> Determinants<'_, V, T, L, U> {
+    // The four classes of a usage, or the first determinant that gives none.
+    pub fn classify(&self, usage: &Usage) -> Result<Classes, Refusal>
+        ensures { outcome result ≡ classified (meanings_of V.meaning T.meaning L.meaning U.meaning self.now) usage.now }
+    {
+        Ok(Classes {
+            vehicle: class_by(Role::Vehicle, self.vehicle, usage)?,
+            time: class_by(Role::Time, self.time, usage)?,
+            location: class_by(Role::Location, self.location, usage)?,
+            user: class_by(Role::User, self.user, usage)?,
+        })
+    }
 }

@@ -1,10 +1,8 @@
 // Spans of keys: the classes of locations and of users, and the check that no key lies in two spans.
 ghost use Rattle.std.specs.Prelude.{◌≡◌, true, Decides};
-ghost use Rattle.classes.specs.Entries.{by_entries};
 ghost use Rattle.classes.specs.Spans.{span_class, span_covers, span_follows, spans_ordered, InOrder, NoKeyTwice};
 
-use crate::determinant::Determinant;
-use crate::entries::{Entry, first_match};
+use crate::entries::{Entry, Listed};
 use crate::keys::{ContractKey, Key, ObjectKey, UsageKey};
 use crate::usage::Usage;
 
@@ -14,6 +12,22 @@ pub struct Span<K> {
     pub class: u8,
     pub low: K,
     pub high: K,
+}
+
+impl<K: Key> Span<K> {
+    // Whether the key is neither before the low nor after the high.
+    fn holds(&self, key: &K) -> bool
+        ensures { result ≡ span_covers K.upto self.now key.now }
+    {
+        self.low.not_after(key) && key.not_after(&self.high)
+    }
+
+    // Whether the span runs forward, from after the high before it, if there is one.
+    pub fn follows(&self, before: Option<K>) -> bool
+        ensures { result ≡ span_follows K.Key.upto before self.now }
+    {
+        before.is_none_or(|high| !self.low.not_after(&high)) && self.low.not_after(&self.high)
+    }
 }
 
 impl<K: Key> Entry<K> for Span<K> {
@@ -26,45 +40,28 @@ impl<K: Key> Entry<K> for Span<K> {
     }
 
     fn covers(&self, key: &K) -> bool {
-        self.low.not_after(key) && key.not_after(&self.high)
+        self.holds(key)
     }
 }
 
-impl<K: Key> Span<K> {
-    // Whether the span runs forward, from after the high before it, if there is one.
-    pub fn follows(&self, before: Option<K>) -> bool
-        ensures { result ≡ span_follows K.Key.upto before self.now }
-    {
-        let after = match before {
-            None => true,
-            Some(high) => !self.low.not_after(&high),
-        };
-        after && self.low.not_after(&self.high)
+// A usage is asked for its key.
+impl<K: UsageKey> Entry<Usage> for Span<K> {
+    ghost given = { span_class };
+
+    ghost covering = { λ s u. span_covers K.Key.upto s (K.UsageKey.taken u) };
+
+    fn class(&self) -> u8 {
+        Entry::<K>::class(self)
+    }
+
+    fn covers(&self, usage: &Usage) -> bool {
+        self.holds(&K::of(usage))
     }
 }
 
-// Classes by the first span that covers the usage's key.
-#[derive(Clone, Copy)]
-pub struct Spans<'a, K> {
-    pub count: u8,
-    pub spans: &'a [Span<K>],
-}
+pub type Locations<'a> = Listed<'a, Span<ObjectKey>>;
 
-pub type Locations<'a> = Spans<'a, ObjectKey>;
-
-pub type Users<'a> = Spans<'a, ContractKey>;
-
-impl<K: UsageKey> Determinant for Spans<'_, K> {
-    ghost meaning = { λ d. by_entries span_class (λ e u. span_covers K.Key.upto e (K.UsageKey.taken u)) d.count d.spans.now };
-
-    fn count(&self) -> u8 {
-        self.count
-    }
-
-    fn class(&self, usage: &Usage) -> u8 {
-        first_match(self.count, self.spans, &K::of(usage))
-    }
-}
+pub type Users<'a> = Listed<'a, Span<ContractKey>>;
 
 // Whether no low is after its high, and each later low is after the high before it.
 pub fn in_order<K: Key>(spans: &[Span<K>]) -> bool

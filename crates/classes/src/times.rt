@@ -1,10 +1,8 @@
 // Time classes, by weekday and minute of the day.
 ghost use Rattle.std.specs.Prelude.{◌≡◌};
-ghost use Rattle.classes.specs.Entries.{by_entries};
 ghost use Rattle.classes.specs.Times.{weekday_of, has_bit, period_class, period_covers};
 
-use crate::determinant::Determinant;
-use crate::entries::{Entry, first_match};
+use crate::entries::{Entry, Listed};
 use crate::usage::{Instant, Usage};
 
 // On the days whose bits are set, Monday's being the lowest: from a minute of the day up to, and without, another.
@@ -23,6 +21,14 @@ impl Period {
     {
         (self.days >> instant.weekday()) % 2 == 1
     }
+
+    // Whether the instant lies on one of the days and between the minutes.
+    fn holds(&self, instant: &Instant) -> bool
+        ensures { result ≡ period_covers self.now instant.now }
+    {
+        let minute = instant.minute();
+        self.runs_on(instant) && self.from <= minute && minute < self.to
+    }
 }
 
 impl Entry<Instant> for Period {
@@ -35,26 +41,24 @@ impl Entry<Instant> for Period {
     }
 
     fn covers(&self, instant: &Instant) -> bool {
-        let minute = instant.minute();
-        self.runs_on(instant) && self.from <= minute && minute < self.to
+        self.holds(instant)
     }
 }
 
-// Classes by the first period that covers the instant.
-#[derive(Clone, Copy)]
-pub struct Times<'a> {
-    pub count: u8,
-    pub periods: &'a [Period],
-}
+// A usage is asked for its instant.
 
-impl Determinant for Times<'_> {
-    ghost meaning = { λ d. by_entries period_class (λ e u. period_covers e u.instant) d.count d.periods.now };
+impl Entry<Usage> for Period {
+    ghost given = { period_class };
 
-    fn count(&self) -> u8 {
-        self.count
+    ghost covering = { λ p u. period_covers p u.instant };
+
+    fn class(&self) -> u8 {
+        Entry::<Instant>::class(self)
     }
 
-    fn class(&self, usage: &Usage) -> u8 {
-        first_match(self.count, self.periods, &usage.instant)
+    fn covers(&self, usage: &Usage) -> bool {
+        self.holds(&usage.instant)
     }
 }
+
+pub type Times<'a> = Listed<'a, Period>;

@@ -1,9 +1,7 @@
 // Vehicle classes, by axles, mass and emission.
-ghost use Rattle.classes.specs.Entries.{by_entries};
 ghost use Rattle.classes.specs.Vehicles.{rule_class, rule_covers};
 
-use crate::determinant::Determinant;
-use crate::entries::{Entry, first_match};
+use crate::entries::{Entry, Listed};
 use crate::usage::Usage;
 
 // Numbers from low to high, both included.
@@ -30,6 +28,7 @@ impl Entry<Usage> for Rule {
         self.class
     }
 
+    // Numbers of two widths, so that a method of a band would have to state the order of any type.
     fn covers(&self, usage: &Usage) -> bool {
         self.axles.low <= usage.axles
             && usage.axles <= self.axles.high
@@ -40,21 +39,4 @@ impl Entry<Usage> for Rule {
     }
 }
 
-// Classes by the first rule that covers the vehicle.
-#[derive(Clone, Copy)]
-pub struct Vehicles<'a> {
-    pub count: u8,
-    pub rules: &'a [Rule],
-}
-
-impl Determinant for Vehicles<'_> {
-    ghost meaning = { λ d. by_entries rule_class rule_covers d.count d.rules.now };
-
-    fn count(&self) -> u8 {
-        self.count
-    }
-
-    fn class(&self, usage: &Usage) -> u8 {
-        first_match(self.count, self.rules, usage)
-    }
-}
+pub type Vehicles<'a> = Listed<'a, Rule>;

@@ -18,7 +18,7 @@ impl Determinant for Whole {
         Self::COUNT
     }
 
-    fn class(&self, _usage: &Usage) -> u8 {
-        self.count()
+    fn class(&self, _usage: &Usage) -> Option<u8> {
+        Some(self.count())
     }
 }

@@ -18,7 +18,10 @@ impl Determinant for ByAxles {
     }
 
     // A vehicle of fewer than two axles has no class.
-    fn class(&self, usage: &Usage) -> u8 {
-        usage.axles.saturating_sub(1).min(Self::COUNT)
+    fn class(&self, usage: &Usage) -> Option<u8> {
+        match usage.axles.saturating_sub(1) {
+            0 => None,
+            more => Some(more.min(Self::COUNT)),
+        }
     }
 }

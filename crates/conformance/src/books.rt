@@ -3,8 +3,8 @@
 mod tests {
     use crate::axles::ByAxles;
     use book::Book;
-    use charging::{HIGHEST_AMOUNT, Price};
-    use classes::{Instant, Role, Usage, Whole};
+    use charging::HIGHEST_AMOUNT;
+    use classes::{Determinants, Instant, Role, Usage, Whole};
     use contents::Refusal;
     use lines::{ClassSet, Counts, Line, LineTable};
     use std::process::Abort;
@@ -55,7 +55,7 @@ mod tests {
         }
     }
 
-    // One edit of a book.
+    // One edit of a book, as a value, so that an order of edits is a table.
     #[derive(Clone, Copy)]
     enum Edit {
         Open(Counts),
@@ -69,16 +69,27 @@ mod tests {
 
     use Edit::*;
 
-    // The number of a refusal, and the line that an overlap names; 0 where there is none.
-    fn told(answer: Result<(), Refusal>) -> (u8, u16) {
-        match answer {
-            Ok(()) => (0, 0),
-            Err(Refusal::Overlap(line)) => (11, line),
-            Err(refusal) => (refusal.number(), 0),
-        }
+    // Done, or the number of the refusal, which is what is promised, and the line that an overlap names.
+    type Told = Result<(), (u8, Option<u16>)>;
+
+    const DONE: Told = Ok(());
+
+    const fn refused(number: u8) -> Told {
+        Err((number, None))
     }
 
-    fn make(book: &mut Book, edit: Edit) -> (u8, u16) {
+    const fn overlaps(line: u16) -> Told {
+        Err((11, Some(line)))
+    }
+
+    fn told(answer: Result<(), Refusal>) -> Told {
+        answer.map_err(|refusal| match refusal {
+            Refusal::Overlap(line) => (refusal.number(), Some(line)),
+            _ => (refusal.number(), None),
+        })
+    }
+
+    fn make(book: &mut Book, edit: Edit) -> Told {
         told(match edit {
             Open(counts) => book.open(counts),
             Put(number, terms) => book.put(number, terms),
@@ -91,13 +102,11 @@ mod tests {
     }
 
     // Runs edits, and compares what each is told.
-    fn run(rt: &impl Abort, book: &mut Book, edits: &[(Edit, (u8, u16))]) {
+    fn run(rt: &impl Abort, book: &mut Book, edits: &[(Edit, Told)]) {
         for (step, expected) in edits {
             assert_eq!(rt; make(book, *step), *expected);
         }
     }
-
-    const DONE: (u8, u16) = (0, 0);
 
     // A draft with two vehicle and two location classes, and tariff 1.
     fn draft(rt: &impl Abort) -> Book {
@@ -117,10 +126,10 @@ mod tests {
             (Add(1, line(1, 3)), DONE),
             (Withdraw(1), DONE),
             (Add(4, line(1, 2)), DONE),
-            (Restore(1), (11, 4)),
+            (Restore(1), overlaps(4)),
             (Withdraw(4), DONE),
             (Restore(1), DONE),
-            (Restore(4), (11, 1)),
+            (Restore(4), overlaps(1)),
         ];
         run(&rt, &mut book, &edits);
     }
@@ -135,10 +144,10 @@ mod tests {
             (Withdraw(1), DONE),
             (Restore(2), DONE),
             // a live line with a higher number, and then one with a lower
-            (Restore(1), (11, 2)),
+            (Restore(1), overlaps(2)),
             (Withdraw(2), DONE),
             (Restore(1), DONE),
-            (Restore(2), (11, 1)),
+            (Restore(2), overlaps(1)),
         ];
         run(&rt, &mut book, &edits);
     }
@@ -155,7 +164,7 @@ mod tests {
             (Withdraw(1), DONE),
             (Strike(1), DONE),
             // line 2 was there all along
-            (Add(1, line(3, 1)), (11, 2)),
+            (Add(1, line(3, 1)), overlaps(2)),
         ];
         run(&rt, &mut book, &edits);
     }
@@ -168,8 +177,8 @@ mod tests {
             (Add(2, line(2, 1)), DONE),
             (Add(3, line(2, 2)), DONE),
             // the lowest of two that overlap
-            (Add(4, line(2, 3)), (11, 2)),
-            (Add(4, line(3, 2)), (11, 1)),
+            (Add(4, line(2, 3)), overlaps(2)),
+            (Add(4, line(3, 2)), overlaps(1)),
         ];
         run(&rt, &mut book, &edits);
     }
@@ -178,18 +187,18 @@ mod tests {
     fn withdrawn_numbers_stay_taken(rt: HostRuntime) {
         let mut book = draft(&rt);
         let edits = [
-            (Withdraw(256), (7, 0)),
-            (Strike(256), (8, 0)),
+            (Withdraw(256), refused(7)),
+            (Strike(256), refused(8)),
             (Add(256, line(1, 1)), DONE),
-            (Strike(256), (8, 0)),
-            (Restore(256), (8, 0)),
+            (Strike(256), refused(8)),
+            (Restore(256), refused(8)),
             (Withdraw(256), DONE),
-            (Withdraw(256), (7, 0)),
-            (Add(256, line(2, 2)), (6, 0)),
+            (Withdraw(256), refused(7)),
+            (Add(256, line(2, 2)), refused(6)),
             (Strike(256), DONE),
-            (Restore(256), (8, 0)),
+            (Restore(256), refused(8)),
             (Add(256, line(2, 2)), DONE),
-            (Add(256, line(2, 2)), (6, 0)),
+            (Add(256, line(2, 2)), refused(6)),
         ];
         run(&rt, &mut book, &edits);
     }
@@ -198,22 +207,22 @@ mod tests {
     fn refusals_of_a_blank_book(rt: HostRuntime) {
         let mut book = Book::new();
         let edits = [
-            (Put(0, TERMS), (1, 0)),
-            (Add(0, line(0, 0)), (1, 0)),
-            (Withdraw(0), (1, 0)),
-            (Restore(0), (1, 0)),
-            (Strike(0), (1, 0)),
-            (Reopen, (1, 0)),
-            (Open(Counts { users: 0, ..COUNTS }), (2, 0)),
+            (Put(0, TERMS), refused(1)),
+            (Add(0, line(0, 0)), refused(1)),
+            (Withdraw(0), refused(1)),
+            (Restore(0), refused(1)),
+            (Strike(0), refused(1)),
+            (Reopen, refused(1)),
+            (Open(Counts { users: 0, ..COUNTS }), refused(2)),
             (
                 Open(Counts {
                     times: 65,
                     ..COUNTS
                 }),
-                (2, 0),
+                refused(2),
             ),
             (Open(COUNTS), DONE),
-            (Open(COUNTS), (1, 0)),
+            (Open(COUNTS), refused(1)),
         ];
         run(&rt, &mut book, &edits);
     }
@@ -231,80 +240,78 @@ mod tests {
             ..strange
         };
         let edits = [
-            (Put(0, unfit), (3, 0)),
-            (Put(65, TERMS), (3, 0)),
-            (Put(64, unfit), (4, 0)),
+            (Put(0, unfit), refused(3)),
+            (Put(65, TERMS), refused(3)),
+            (Put(64, unfit), refused(4)),
             (Add(1, line(1, 3)), DONE),
-            (Add(0, strange), (5, 0)),
-            (Add(257, strange), (5, 0)),
-            (Add(1, strange), (6, 0)),
-            (Add(2, strange), (3, 0)),
-            (Add(2, unput), (9, 0)),
-            (Add(2, line(0, 3)), (10, 0)),
-            (Add(2, line(1, 4)), (10, 0)),
-            (Add(2, line(3, 3)), (11, 1)),
-            (Reopen, (1, 0)),
+            (Add(0, strange), refused(5)),
+            (Add(257, strange), refused(5)),
+            (Add(1, strange), refused(6)),
+            (Add(2, strange), refused(3)),
+            (Add(2, unput), refused(9)),
+            (Add(2, line(0, 3)), refused(10)),
+            (Add(2, line(1, 4)), refused(10)),
+            (Add(2, line(3, 3)), overlaps(1)),
+            (Reopen, refused(1)),
         ];
         run(&rt, &mut book, &edits);
     }
 
     // The version that issue answers, or the number of its refusal and the location class of a gap.
-    fn issued(book: &mut Book) -> (u8, u8, u8) {
-        match book.issue() {
-            Ok(version) => (version, 0, 0),
-            Err(Refusal::Gap(classes)) => (0, 12, classes.location),
-            Err(refusal) => (0, refusal.number(), 0),
-        }
+    fn issued(book: &mut Book) -> Result<u8, (u8, Option<u8>)> {
+        book.issue().map_err(|refusal| match refusal {
+            Refusal::Gap(classes) => (refusal.number(), Some(classes.location)),
+            _ => (refusal.number(), None),
+        })
     }
 
     // Issues a complete book again and again, until its version is 255.
     fn reissue(rt: &impl Abort, book: &mut Book) {
         for _ in 1..255 {
             assert_eq!(rt; make(book, Reopen), DONE);
-            assert_eq!(rt; issued(book).1, 0);
+            assert!(rt; issued(book).is_ok());
         }
     }
 
     #[test]
     fn issue_and_reopen(rt: HostRuntime) {
         let mut book = draft(&rt);
-        assert_eq!(rt; issued(&mut book), (0, 12, 1), "no line at all");
+        assert_eq!(rt; issued(&mut book), Err((12, Some(1))), "no line at all");
         run(
             &rt,
             &mut book,
             &[(Add(1, line(1, 3)), DONE), (Add(2, line(2, 1)), DONE)],
         );
-        assert_eq!(rt; issued(&mut book), (0, 12, 2));
+        assert_eq!(rt; issued(&mut book), Err((12, Some(2))));
         run(&rt, &mut book, &[(Add(3, line(2, 2)), DONE)]);
-        assert_eq!(rt; issued(&mut book), (1, 0, 0));
-        assert_eq!(rt; issued(&mut book), (0, 1, 0), "it is issued");
-        run(&rt, &mut book, &[(Withdraw(1), (1, 0))]);
+        assert_eq!(rt; issued(&mut book), Ok(1));
+        assert_eq!(rt; issued(&mut book), Err((1, None)), "it is issued");
+        run(&rt, &mut book, &[(Withdraw(1), refused(1))]);
         reissue(&rt, &mut book);
         assert_eq!(rt; book.contents().version, 255);
         run(&rt, &mut book, &[(Reopen, DONE), (Withdraw(3), DONE)]);
-        assert_eq!(rt; issued(&mut book), (0, 13, 0), "before the gap");
+        assert_eq!(rt; issued(&mut book), Err((13, None)), "before the gap");
     }
 
     // The line, tariff and fee of a usage, by axles and by whole determinants; or the refusal and what it names.
-    fn price(book: &Book, usage: &Usage) -> (u16, u8, u32, u8, u8) {
-        match book.price(&ByAxles, &Whole, &Whole, &Whole, usage) {
-            Ok(
-                Price {
-                    line,
-                    tariff,
-                    charge,
-                },
-            ) => (line, tariff, charge.fee, 0, 0),
-            Err(refusal) => (0, 0, 0, refusal.number(), named(refusal)),
+    fn price(book: &Book, usage: &Usage) -> Result<(u16, u8, u32), (u8, Option<u8>)> {
+        let determinants = Determinants {
+            vehicle: &ByAxles,
+            time: &Whole,
+            location: &Whole,
+            user: &Whole,
+        };
+        match book.price(&determinants, usage) {
+            Ok(price) => Ok((price.line, price.tariff, price.charge.fee)),
+            Err(refusal) => Err((refusal.number(), named(refusal))),
         }
     }
 
     // The determinant that a refusal names.
-    fn named(refusal: Refusal) -> u8 {
+    fn named(refusal: Refusal) -> Option<u8> {
         match refusal {
-            Refusal::CountUnlike(role) => role.number(),
-            Refusal::NoClass(role) => role.number(),
-            _ => 0,
+            Refusal::CountUnlike(role) | Refusal::NoClass(role) => Some(role.number()),
+            _ => None,
         }
     }
 
@@ -329,41 +336,40 @@ mod tests {
             (Add(3, second), DONE),
         ];
         run(rt, &mut book, &edits);
-        assert_eq!(rt; price(&book, &USAGE), (0, 0, 0, 1, 0), "a draft");
-        assert_eq!(rt; issued(&mut book).0, 1);
+        assert_eq!(rt; price(&book, &USAGE), Err((1, None)), "a draft");
+        assert_eq!(rt; issued(&mut book), Ok(1));
         book
     }
 
     #[test]
     fn prices(rt: HostRuntime) -> Result<(), Fail> {
         let book = by_axles(&rt);
-        assert_eq!(rt; price(&book, &USAGE), (3, 2, 509, 0, 0));
-        assert_eq!(rt;
-            price(&book, &Usage { axles: 2, ..USAGE }),
-            (7, 1, 255, 0, 0)
-        );
-        assert_eq!(rt;
-            price(&book, &Usage { axles: 9, ..USAGE }),
-            (7, 1, 255, 0, 0)
-        );
+        assert_eq!(rt; price(&book, &USAGE), Ok((3, 2, 509)));
+        assert_eq!(rt; price(&book, &Usage { axles: 2, ..USAGE }), Ok((7, 1, 255)));
+        assert_eq!(rt; price(&book, &Usage { axles: 9, ..USAGE }), Ok((7, 1, 255)));
         let most = Usage {
             metres: HIGHEST_AMOUNT,
             ..USAGE
         };
-        assert_eq!(rt; price(&book, &most), (3, 2, 200_000, 0, 0));
+        assert_eq!(rt; price(&book, &most), Ok((3, 2, 200_000)));
         let unclassed = Usage { axles: 1, ..USAGE };
-        assert_eq!(rt; price(&book, &unclassed), (0, 0, 0, 16, 1));
+        assert_eq!(rt; price(&book, &unclassed), Err((16, Some(1))));
         let too_many = Usage {
             events: HIGHEST_AMOUNT + 1,
             ..unclassed
         };
         assert_eq!(rt;
             price(&book, &too_many),
-            (0, 0, 0, 15, 0),
+            Err((15, None)),
             "before the class"
         );
-        let other = book.price(&ByAxles, &ByAxles, &Whole, &ByAxles, &too_many);
-        match other {
+        let others = Determinants {
+            vehicle: &ByAxles,
+            time: &ByAxles,
+            location: &Whole,
+            user: &ByAxles,
+        };
+        match book.price(&others, &too_many) {
             Err(Refusal::CountUnlike(Role::Time)) => Ok(()),
             _ => Err(Fail::new("the time determinant has another count")),
         }
@@ -377,13 +383,13 @@ mod tests {
             &rt,
             &mut book,
             &[
-                (Put(2, dearer), (1, 0)),
+                (Put(2, dearer), refused(1)),
                 (Reopen, DONE),
                 (Put(2, dearer), DONE),
             ],
         );
-        assert_eq!(rt; issued(&mut book).0, 2);
-        assert_eq!(rt; price(&book, &USAGE), (3, 2, 764, 0, 0));
+        assert_eq!(rt; issued(&mut book), Ok(2));
+        assert_eq!(rt; price(&book, &USAGE), Ok((3, 2, 764)));
     }
 
     // 256 lines that share 64 classes of each determinant out by location and user.
@@ -415,8 +421,8 @@ mod tests {
             &[(Open(counts), DONE), (Put(1, TERMS), DONE)],
         );
         share_out(&rt, &mut book);
-        assert_eq!(rt; issued(&mut book), (1, 0, 0));
+        assert_eq!(rt; issued(&mut book), Ok(1));
         run(&rt, &mut book, &[(Reopen, DONE), (Withdraw(256), DONE)]);
-        assert_eq!(rt; issued(&mut book), (0, 12, 64));
+        assert_eq!(rt; issued(&mut book), Err((12, Some(64))));
     }
 }

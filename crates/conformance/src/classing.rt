@@ -3,8 +3,8 @@
 mod tests {
     use crate::axles::ByAxles;
     use classes::{
-        ContractKey, Determinant, Entry, Instant, Locations, ObjectKey, Period, Refusal, Span,
-        Times, Usage, Users, Whole, classify, in_order,
+        Classes, ContractKey, Determinant, Determinants, Instant, Locations, ObjectKey, Period,
+        Refusal, Span, Times, Usage, Users, Whole, in_order,
     };
     use std::test::Fail;
 
@@ -39,13 +39,13 @@ mod tests {
         }];
         let times = Times {
             count: 1,
-            periods: &periods,
+            entries: &periods,
         };
-        assert_eq!(rt; times.class(&at(6_119)), 0);
-        assert_eq!(rt; times.class(&at(6_120)), 1);
-        assert_eq!(rt; times.class(&at(6_959)), 1);
-        assert_eq!(rt; times.class(&at(6_960)), 0, "minute 1,200 lies outside");
-        assert_eq!(rt; times.class(&at(7_800)), 0, "Tuesday");
+        assert_eq!(rt; times.class(&at(6_119)), None);
+        assert_eq!(rt; times.class(&at(6_120)), Some(1));
+        assert_eq!(rt; times.class(&at(6_959)), Some(1));
+        assert_eq!(rt; times.class(&at(6_960)), None, "minute 1,200 lies outside");
+        assert_eq!(rt; times.class(&at(7_800)), None, "Tuesday");
     }
 
     #[test]
@@ -73,9 +73,13 @@ mod tests {
         ];
         let times = Times {
             count: 3,
-            periods: &periods,
+            entries: &periods,
         };
-        assert_eq!(rt; times.class(&USAGE), 3, "classes 0 and 4 are passed over");
+        assert_eq!(rt;
+            times.class(&USAGE),
+            Some(3),
+            "classes 0 and 4 are passed over"
+        );
     }
 
     #[test]
@@ -95,17 +99,17 @@ mod tests {
         }];
         let locations = Locations {
             count: 1,
-            spans: &spans,
+            entries: &spans,
         };
-        assert_eq!(rt; locations.class(&USAGE), 1);
-        assert_eq!(rt; locations.class(&Usage { object: 6, ..USAGE }), 0);
+        assert_eq!(rt; locations.class(&USAGE), Some(1));
+        assert_eq!(rt; locations.class(&Usage { object: 6, ..USAGE }), None);
         assert_eq!(rt;
             locations.class(&Usage {
                 partition: 2,
                 object: 0,
                 ..USAGE
             },),
-            1
+            Some(1)
         );
         assert_eq!(rt;
             locations.class(&Usage {
@@ -113,7 +117,7 @@ mod tests {
                 object: 1,
                 ..USAGE
             },),
-            0
+            None
         );
         assert_eq!(rt;
             locations.class(&Usage {
@@ -121,7 +125,7 @@ mod tests {
                 object: 9,
                 ..USAGE
             },),
-            0
+            None
         );
     }
 
@@ -148,25 +152,40 @@ mod tests {
         let spans = [first, contracts(2, b"AB12   !", b"ZZ      ")];
         let users = Users {
             count: 2,
-            spans: &spans,
+            entries: &spans,
         };
-        assert_eq!(rt; users.class(&USAGE), 1);
+        assert_eq!(rt; users.class(&USAGE), Some(1));
         assert_eq!(rt;
             users.class(&Usage {
                 contract: *b"ab12    ",
                 ..USAGE
             },),
-            0
+            None
         );
+    }
+
+    fn classify<V: Determinant, T: Determinant, L: Determinant, U: Determinant>(
+        vehicle: &V,
+        time: &T,
+        location: &L,
+        user: &U,
+    ) -> Result<Classes, Refusal> {
+        let determinants = Determinants {
+            vehicle,
+            time,
+            location,
+            user,
+        };
+        determinants.classify(&USAGE)
     }
 
     #[test]
     fn determinants_are_asked_in_turn(rt: HostRuntime) -> Result<(), Fail> {
         let none = Times {
             count: 1,
-            periods: &[],
+            entries: &[],
         };
-        let Ok(classes) = classify(&ByAxles, &Whole, &Whole, &Whole, &USAGE) else {
+        let Ok(classes) = classify(&ByAxles, &Whole, &Whole, &Whole) else {
             return Err(Fail::new("every determinant gives a class"));
         };
         assert_eq!(rt;
@@ -178,11 +197,11 @@ mod tests {
             ),
             (3, 1, 1, 1)
         );
-        let Err(Refusal::NoClass(role)) = classify(&ByAxles, &Whole, &none, &none, &USAGE) else {
+        let Err(Refusal::NoClass(role)) = classify(&ByAxles, &Whole, &none, &none) else {
             return Err(Fail::new("the third gives none"));
         };
         assert_eq!(rt; role.number(), 3);
-        let Err(Refusal::NoClass(role)) = classify(&none, &none, &Whole, &Whole, &USAGE) else {
+        let Err(Refusal::NoClass(role)) = classify(&none, &none, &Whole, &Whole) else {
             return Err(Fail::new("the first gives none"));
         };
         assert_eq!(rt; role.number(), 1);

@@ -2,7 +2,7 @@
 #[cfg(test)]
 mod tests {
     use std::test::Fail;
-    use tariff::{Amounts, Rounding, Terms};
+    use tariff::{Amounts, Rounding, Tariff, Terms};
 
     // Ten a kilometre, nothing else: each test changes what it is about.
     const PLAIN: Terms = Terms {
@@ -25,7 +25,7 @@ mod tests {
             minutes: 7,
             events: 5,
         };
-        let charge = terms.checked()?.charge(&amounts);
+        let charge = Tariff::try_from(terms).ok()?.charge(&amounts);
         Some((charge.fee, charge.vat))
     }
 
@@ -160,7 +160,7 @@ mod tests {
             },
         ];
         for terms in refused.iter() {
-            assert!(rt; terms.checked().is_none());
+            assert!(rt; Tariff::try_from(*terms).is_err());
         }
     }
 
@@ -175,7 +175,10 @@ mod tests {
             vat_rounding: 2,
             ..PLAIN
         };
-        let back = terms.checked().ok_or("in range")?.terms();
+        let Ok(tariff) = Tariff::try_from(terms) else {
+            return Err(Fail::new("in range"));
+        };
+        let back = Terms::from(tariff);
         assert_eq!(rt; (back.measure, back.rounding, back.vat_rounding), (2, 1, 2));
         assert_eq!(rt;
             (back.unit, back.rate, back.threshold, back.offset),

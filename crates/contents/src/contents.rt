@@ -9,14 +9,14 @@ use crate::refusal::Refusal;
 use lines::{Counts, Line, LineState, LineTable};
 use tariff::Tariff;
 
-#[derive(Clone, Copy)]
+#[derive(Clone, Copy, PartialEq, Eq)]
 pub enum Phase {
     Blank,
     Draft,
     Issued,
 }
 
-// Tariff n stands at place n - 1, and so does line n.
+// Tariff n stands at place n - 1, and so does line n. The tables are fixed, so that a book asks for no memory.
 #[derive(Drop)]
 pub struct Contents {
     pub phase: Phase,
@@ -30,25 +30,21 @@ pub struct Contents {
 fn place_of(number: usize, places: usize) -> Option<usize>
     ensures { result ≡ (if nat_le 1 number && nat_le number places then Some (number - 1) else None) }
 {
-    if number >= 1 && number <= places {
-        Some(number - 1)
-    } else {
-        None
-    }
+    number.checked_sub(1).filter(|place| *place < places)
 }
 
 // The place of a line number in the table.
 pub(crate) fn line_place(number: u16) -> Result<usize, Refusal>
     ensures { outcome result ≡ (if line_number number then accepted (number - 1) else refusal (5, [])) }
 {
-    place_of(number as usize, LineTable::NUMBERS).ok_or(Refusal::NoSuchLine)
+    place_of(usize::from(number), LineTable::NUMBERS).ok_or(Refusal::NoSuchLine)
 }
 
 // The place of a tariff number in the table.
 pub(crate) fn tariff_place(number: u8) -> Result<usize, Refusal>
     ensures { outcome result ≡ (if tariff_number number then accepted (number - 1) else refusal (3, [])) }
 {
-    place_of(number as usize, Contents::TARIFFS).ok_or(Refusal::NoSuchTariff)
+    place_of(usize::from(number), Contents::TARIFFS).ok_or(Refusal::NoSuchTariff)
 }
 
 impl Contents {
@@ -77,7 +73,7 @@ impl Contents {
     pub fn expect(&self, phase: Phase) -> Result<(), Refusal>
         ensures { outcome result ≡ (if in_phase phase self.now then accepted tt else refusal (1, [])) }
     {
-        if self.phase as u8 == phase as u8 {
+        if self.phase == phase {
             Ok(())
         } else {
             Err(Refusal::WrongPhase)
@@ -88,22 +84,18 @@ impl Contents {
     pub fn tariff(&self, number: u8) -> Option<Tariff>
         ensures { result ≡ tariff_at self.now number }
     {
-        let tariffs: &[Option<Tariff>] = &self.tariffs;
-        match place_of(number as usize, tariffs.len()) {
-            Some(place) => tariffs[place],
-            None => None,
-        }
+        let place = usize::from(number).checked_sub(1)?;
+        *self.tariffs.get(place)?
     }
 
     // What stands at a line number.
     pub fn line(&self, number: u16) -> LineState
         ensures { result ≡ line_at self.now number }
     {
-        let states: &[LineState] = &self.lines.states;
-        match place_of(number as usize, states.len()) {
-            Some(place) => states[place],
-            None => LineState::Free,
-        }
+        usize::from(number)
+            .checked_sub(1)
+            .and_then(|place| self.lines.states.get(place).copied())
+            .unwrap_or(LineState::Free)
     }
 
     pub(crate) fn clear_of_lines(&self, line: &Line) -> Result<(), Refusal>

@@ -1,41 +1,14 @@
 // The editing and issuing calls on plain contents: tests in a fixed order, and then one change.
 ghost use Rattle.std.specs.Prelude.{◌≡◌, ◌+◌};
 ghost use Rattle.tariff.specs.Ranges.{checked};
-ghost use Rattle.contents.specs.Calls.{answered, settled, set_aside, made_live, given_up, open_refusal, opened, put_refusal, stored, add_refusal, added, withdraw_refusal, withdrawn, restore_refusal, restored, strike_refusal, struck, issue_refusal, issued, reopen_refusal, reopened};
+ghost use Rattle.contents.specs.Calls.{answered, settled, open_refusal, opened, put_refusal, stored, add_refusal, added, withdraw_refusal, withdrawn, restore_refusal, restored, strike_refusal, struck, issue_refusal, issued, reopen_refusal, reopened};
 ghost use Rattle.contents.specs.Refusals.{outcome};
 
 use crate::contents::{Contents, Phase, line_place, tariff_place};
 use crate::refusal::Refusal;
 use gaps::first_gap;
 use lines::{Counts, Line, LineState};
-use tariff::Terms;
-
-// A live line becomes withdrawn.
-fn set_aside(state: &mut LineState)
-    ensures { state.new ≡ set_aside state.old }
-{
-    if let LineState::Live(line) = *state {
-        *state = LineState::Withdrawn(line);
-    }
-}
-
-// A withdrawn line becomes live.
-fn make_live(state: &mut LineState)
-    ensures { state.new ≡ made_live state.old }
-{
-    if let LineState::Withdrawn(line) = *state {
-        *state = LineState::Live(line);
-    }
-}
-
-// A withdrawn line is given up, and its number becomes free.
-fn give_up(state: &mut LineState)
-    ensures { state.new ≡ given_up state.old }
-{
-    if let LineState::Withdrawn(_) = *state {
-        *state = LineState::Free;
-    }
-}
+use tariff::{Tariff, Terms};
 
 impl Contents {
     pub fn open(&mut self, counts: Counts) -> Result<(), Refusal>
@@ -57,9 +30,7 @@ impl Contents {
     {
         self.expect(Phase::Draft)?;
         let place = tariff_place(number)?;
-        let Some(tariff) = terms.checked() else {
-            return Err(Refusal::TermsOutOfRange);
-        };
+        let tariff = Tariff::try_from(terms)?;
         self.tariffs[place] = Some(tariff);
         Ok(())
     }
@@ -74,9 +45,7 @@ impl Contents {
             return Err(Refusal::NumberTaken);
         };
         tariff_place(line.tariff)?;
-        let Some(_) = self.tariff(line.tariff) else {
-            return Err(Refusal::TariffNeverPut);
-        };
+        self.tariff(line.tariff).ok_or(Refusal::TariffNeverPut)?;
         if !line.fits(&self.counts) {
             return Err(Refusal::SetOutOfRange);
         }
@@ -91,10 +60,10 @@ impl Contents {
     {
         self.expect(Phase::Draft)?;
         let place = line_place(number)?;
-        let LineState::Live(_) = self.line(number) else {
+        let LineState::Live(line) = self.line(number) else {
             return Err(Refusal::NotLive);
         };
-        set_aside(&mut self.lines.states[place]);
+        self.lines.states[place] = LineState::Withdrawn(line);
         Ok(())
     }
 
@@ -108,7 +77,7 @@ impl Contents {
             return Err(Refusal::NotWithdrawn);
         };
         self.clear_of_lines(&kept)?;
-        make_live(&mut self.lines.states[place]);
+        self.lines.states[place] = LineState::Live(kept);
         Ok(())
     }
 
@@ -121,7 +90,7 @@ impl Contents {
         let LineState::Withdrawn(_) = self.line(number) else {
             return Err(Refusal::NotWithdrawn);
         };
-        give_up(&mut self.lines.states[place]);
+        self.lines.states[place] = LineState::Free;
         Ok(())
     }
 

@@ -1,9 +1,13 @@
 // Why a call is refused.
-ghost use Rattle.std.specs.Prelude.{◌≡◌};
+ghost use Rattle.std.specs.Prelude.{◌≡◌, Some};
 ghost use Rattle.classes.specs.Outcomes.{numbered as class_numbered};
+ghost use Rattle.contents.specs.declared.refusal.Refusal.TheVariants.{TermsOutOfRange};
 ghost use Rattle.contents.specs.Refusals.{numbered};
+ghost use Rattle.contents.specs.Text.{refusal_text};
 
 use classes::{Classes, Role};
+use std::fmt;
+use tariff::OutOfRange;
 
 #[derive(Clone, Copy)]
 pub enum Refusal {
@@ -39,6 +43,7 @@ pub enum Refusal {
 }
 
 impl Refusal {
+    // A method and no `From`, which would look as if the number said all: a refusal carries values beside it.
     pub fn number(self) -> u8
         ensures { result ≡ (numbered self).0 }
     {
@@ -63,12 +68,39 @@ impl Refusal {
     }
 }
 
+// Each case of the smaller enum is one here, so that a refusal has its number in one table.
 impl From<classes::Refusal> for Refusal {
     ghost from_gives = { λ e r. numbered r ≡ class_numbered e };
 
     fn from(refusal: classes::Refusal) -> Refusal {
         match refusal {
             classes::Refusal::NoClass(role) => Refusal::NoClass(role),
+        }
+    }
+}
+
+impl From<OutOfRange> for Refusal {
+    ghost from_gives = { λ _ r. r ≡ TermsOutOfRange };
+
+    fn from(_out: OutOfRange) -> Refusal {
+        Self::TermsOutOfRange
+    }
+}
+
+// "7", "11 by 4", "12 at 2 1 2 1" or "16 by 2"
+impl fmt::Display for Refusal {
+    ghost output = { λ r. Some (refusal_text (numbered r)) };
+
+    fn fmt<W: fmt::Write>(&self, f: &mut fmt::Formatter<W>) -> fmt::Result {
+        let number = self.number();
+        match *self {
+            Refusal::Overlap(line) => write!(f, "{number} by {line}"),
+            Refusal::Gap(classes) => write!(f, "{number} at {classes}"),
+            Refusal::CountUnlike(role) | Refusal::NoClass(role) => {
+                let by = role.number();
+                write!(f, "{number} by {by}")
+            }
+            _ => write!(f, "{number}"),
         }
     }
 }

@@ -2,7 +2,7 @@
 #![tactic(auto)]
 
 use anyhow::anyhow;
-use editing::answers;
+use editing::{Job, answers};
 use journal::{answer_line, refused_line};
 use script::{ScriptError, Step, parse_script};
 use std::alloc::{AllocError, Global};
@@ -27,36 +27,36 @@ struct Cases {
     right: u32,
 }
 
-// The lines that tell the answers to the steps; no step reads or writes a file.
-fn steps_text(heap: Global, steps: &[Step<&[u8]>], text: &mut String) -> Result<(), AllocError> {
-    let sheets: Vec<Vec<u8>> = Vec::new(heap);
-    let answers = answers(heap, steps, sheets.as_slice())?;
-    for (step, answer) in steps.iter().zip(answers.iter()) {
-        text.push_str(answer_line(heap, step.line, answer)?.as_str())?;
-        text.push_str("\n")?;
+// Puts the lines that tell the answers to the steps behind a text; no step reads or writes a file.
+fn write_answers(heap: Global, steps: &[Step<&[u8]>], text: &mut String) -> Result<(), AllocError> {
+    let jobs: Vec<Job> = steps
+        .iter()
+        .map(|step| Job {
+            step: *step,
+            sheet: Vec::new(heap),
+        })
+        .collect(heap)?;
+    let answers = answers(heap, jobs.as_slice())?;
+    for (job, answer) in jobs.iter().zip(answers.iter()) {
+        let line = answer_line(heap, job.step.line, answer)?;
+        writeln!(text, "{line}")?;
     }
     Ok(())
 }
 
-// Everything that is printed for a script.
+// Everything that is printed for a script, as `tolledit` prints it.
 fn script_text(heap: Global, script: &str) -> anyhow::Result<String> {
     let mut text = String::new(heap);
     match parse_script(heap, script.as_bytes()) {
-        Ok(steps) => steps_text(heap, steps.as_slice(), &mut text)?,
+        Ok(steps) => write_answers(heap, steps.as_slice(), &mut text)?,
         Err(ScriptError::Refused(line)) => {
-            text.push_str(refused_line(heap, line)?.as_str())?;
-            text.push_str("\n")?;
+            let line = refused_line(heap, line)?;
+            writeln!(text, "{line}")?;
         }
         Err(ScriptError::NoMemory) => return Err(anyhow!("out of memory")),
     }
-    text.push_str("end\n")?;
+    writeln!(text, "end")?;
     Ok(text)
-}
-
-// A line of a part, with its end.
-fn add_line(part: &mut String, line: &str) -> Result<(), AllocError> {
-    part.push_str(line)?;
-    part.push_str("\n")
 }
 
 impl Cases {
@@ -64,7 +64,7 @@ impl Cases {
     fn run(&mut self, heap: Global) -> anyhow::Result<()> {
         let text = script_text(heap, self.script.as_str())?;
         self.run = self.run.saturating_add(1);
-        if text.as_str() == self.expected.as_str() {
+        if text == self.expected {
             self.right = self.right.saturating_add(1);
         }
         self.script.clear();
@@ -74,26 +74,13 @@ impl Cases {
     }
 
     fn take(&mut self, heap: Global, line: &str) -> anyhow::Result<()> {
-        match self.part {
-            Part::Outside => {
-                if line == "script" {
-                    self.part = Part::Script;
-                }
-            }
-            Part::Script => {
-                if line == "expect" {
-                    self.part = Part::Expected;
-                } else {
-                    add_line(&mut self.script, line)?;
-                }
-            }
-            Part::Expected => {
-                if line == "." {
-                    self.run(heap)?;
-                } else {
-                    add_line(&mut self.expected, line)?;
-                }
-            }
+        match (self.part, line) {
+            (Part::Outside, "script") => self.part = Part::Script,
+            (Part::Outside, _) => {}
+            (Part::Script, "expect") => self.part = Part::Expected,
+            (Part::Script, _) => writeln!(self.script, "{line}")?,
+            (Part::Expected, ".") => self.run(heap)?,
+            (Part::Expected, _) => writeln!(self.expected, "{line}")?,
         }
         Ok(())
     }
@@ -112,9 +99,7 @@ fn run(rt: &HostRuntime) -> anyhow::Result<()> {
     for line in from_utf8(bytes.as_slice())?.lines() {
         cases.take(heap, line)?;
     }
-    let run = cases.run;
-    let right = cases.right;
-    println!(rt; "{run} cases, {right} as expected")?;
+    println!(rt; "{} cases, {} as expected", cases.run, cases.right)?;
     Ok(())
 }
 

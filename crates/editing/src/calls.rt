@@ -1,19 +1,22 @@
 // The steps of a script as calls.
-ghost use Rattle.std.specs.Prelude.{◌≡◌, [], map, length, IfOk, vec_items, vec_len, slice_index_or};
-ghost use Rattle.classes.specs.Determinants.{whole_meaning};
+ghost use Rattle.std.specs.Prelude.{◌≡◌, map, length, IfOk, vec_len};
 ghost use Rattle.law.specs.Histories.{history_of};
 ghost use Rattle.law.specs.Law.{Lawful};
-ghost use Rattle.journal.specs.Asked.{asked, told};
-ghost use Rattle.journal.specs.Replays.{entries};
 ghost use Rattle.script.specs.Commands.{with_names};
-ghost use Rattle.script.specs.Scripts.{plain_step};
-ghost use Rattle.editing.specs.Calls.{command_call, script_calls};
+ghost use Rattle.editing.specs.Calls.{asked_whole, command_call, script_calls, script_history};
 
-use classes::Whole;
+use classes::{Determinants, Whole};
 use journal::{Answer, Call, replay};
 use script::{Command, Step};
 use sheet::LONGEST_SHEET;
 use std::alloc::{AllocError, Global};
+
+// A step of a script, with the bytes of the file that it reads; no other step uses them.
+#[derive(Drop)]
+pub struct Job<'a> {
+    pub step: Step<&'a [u8]>,
+    pub sheet: Vec<u8>,
+}
 
 // A call whose determinants give everything one class.
 type WholeCall<'a> = Call<'a, Whole, Whole, Whole, Whole>;
@@ -21,67 +24,49 @@ type WholeCall<'a> = Call<'a, Whole, Whole, Whole, Whole>;
 // One class for everything, for each determinant.
 static WHOLE: Whole = Whole;
 
-// The call of a command, where these are the bytes of the file that it reads.
+// The call of a command, where these are the bytes of the file that it reads. Two enums, since a command has names of files
+// and a call bytes, a length and determinants; and no `From`, since the sheet comes beside the command.
 fn call_of<'a>(command: &Command<&[u8]>, sheet: &'a [u8]) -> WholeCall<'a>
-    ensures { asked (λ _. whole_meaning) (λ _. whole_meaning) (λ _. whole_meaning) (λ _. whole_meaning) result ≡ command_call sheet.now (with_names (λ x. x.now) command.now) }
+    ensures { asked_whole result ≡ command_call sheet.now (with_names (λ x. x.now) command.now) }
 {
-    match command {
-        Command::Open(counts) => Call::Open(*counts),
-        Command::Put(number, terms) => Call::Put(*number, *terms),
-        Command::Add(number, line) => Call::Add(*number, *line),
-        Command::Withdraw(number) => Call::Withdraw(*number),
-        Command::Restore(number) => Call::Restore(*number),
-        Command::Strike(number) => Call::Strike(*number),
+    match *command {
+        Command::Open(counts) => Call::Open(counts),
+        Command::Put(number, terms) => Call::Put(number, terms),
+        Command::Add(number, line) => Call::Add(number, line),
+        Command::Withdraw(number) => Call::Withdraw(number),
+        Command::Restore(number) => Call::Restore(number),
+        Command::Strike(number) => Call::Strike(number),
         Command::Issue => Call::Issue,
         Command::Reopen => Call::Reopen,
         Command::Price(usage) => Call::Price {
-            vehicle: &WHOLE,
-            time: &WHOLE,
-            location: &WHOLE,
-            user: &WHOLE,
-            usage: *usage,
+            determinants: Determinants {
+                vehicle: &WHOLE,
+                time: &WHOLE,
+                location: &WHOLE,
+                user: &WHOLE,
+            },
+            usage,
         },
         Command::Read(_) => Call::Read(sheet),
         Command::Write(_) => Call::Write(LONGEST_SHEET),
     }
 }
 
-// The bytes of the sheet with this place, or none.
-fn sheet_at(sheets: &[Vec<u8>], place: usize) -> &[u8]
-    ensures { result.now ≡ slice_index_or (map vec_items sheets.now) place [] }
+// The calls of the jobs.
+fn calls_of<'a>(heap: Global, jobs: &'a [Job]) -> Result<Vec<WholeCall<'a>>, AllocError>
+    ensures { IfOk result (λ calls. map asked_whole calls.items ≡ script_calls jobs.now) }
 {
-    if place < sheets.len() {
-        sheets[place].as_slice()
-    } else {
-        &[]
-    }
+    jobs.iter()
+        .map(|job| call_of(&job.step.command, job.sheet.as_slice()))
+        .collect(heap)
 }
 
-// The calls of the steps, each with the sheet that has its place.
-fn calls_of<'a>(
-    heap: Global,
-    steps: &[Step<&[u8]>],
-    sheets: &'a [Vec<u8>],
-) -> Result<Vec<WholeCall<'a>>, AllocError>
-    ensures { IfOk result (λ calls. map (asked (λ _. whole_meaning) (λ _. whole_meaning) (λ _. whole_meaning) (λ _. whole_meaning)) calls.items ≡ script_calls (map vec_items sheets.now) (map plain_step steps.now)) }
+// What a new book answers to the jobs, done one after another.
+pub fn answers(heap: Global, jobs: &[Job]) -> Result<Vec<Answer>, AllocError>
+    ensures many { IfOk result (λ answers. vec_len answers ≡ length jobs.now) }
+    ensures lawful { IfOk result (λ answers. Lawful (script_history jobs.now answers.items)) }
+    ensures answers { IfOk result (λ answers. script_history jobs.now answers.items ≡ history_of (script_calls jobs.now)) }
 {
-    let mut calls = Vec::new(heap);
-    for (place, step) in steps.iter().enumerate() {
-        calls.push(call_of(&step.command, sheet_at(sheets, place)))?;
-    }
-    Ok(calls)
-}
-
-// What a new book answers to the steps of a script, made of it one after another.
-pub fn answers(
-    heap: Global,
-    steps: &[Step<&[u8]>],
-    sheets: &[Vec<u8>],
-) -> Result<Vec<Answer>, AllocError>
-    ensures many { IfOk result (λ answers. vec_len answers ≡ length steps.now) }
-    ensures lawful { IfOk result (λ answers. Lawful (entries (script_calls (map vec_items sheets.now) (map plain_step steps.now)) (map told answers.items))) }
-    ensures answers { IfOk result (λ answers. entries (script_calls (map vec_items sheets.now) (map plain_step steps.now)) (map told answers.items) ≡ history_of (script_calls (map vec_items sheets.now) (map plain_step steps.now))) }
-{
-    let calls = calls_of(heap, steps, sheets)?;
+    let calls = calls_of(heap, jobs)?;
     replay(heap, calls.as_slice())
 }

@@ -3,4 +3,4 @@
 
 mod calls;
 
-pub use calls::answers;
+pub use calls::{Job, answers};

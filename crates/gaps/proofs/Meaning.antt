@@ -2,6 +2,7 @@
 use Rattle.std.proofs.Common.{◌≡◌, ℕ, zero, suc, ◌+◌, ◌-◌, ◌<◌, ◌≤◌, Bool, true, false, List, [], ◌∷◌, get_or, Some, None, Option, sym, refl, ◌∙◌, subst, ⊎_elim, arith, MatchOption}
 use Rattle.std.proofs.lemmas.Bool.{both_ways, cases_order, cases_eq, eq-eqb, ne_eqb, or_cases, or_left, or_right, false≢true}
 use Rattle.classes.specs.declared.refusal.Classes.{Classes}
+use Rattle.classes.proofs.Clash.{clash}
 use Rattle.lines.specs.declared.sets.Counts.{Counts}
 use Rattle.lines.specs.declared.states.Line.{Line}
 use Rattle.lines.specs.declared.states.LineState.{LineState}
@@ -21,7 +22,7 @@ claim_place k (s ∷ ss) h =
     (or_cases (state_claims k s) (claimed ss k) h)
 
 place_claims : (k : Classes) (states : List LineState) (i : ℕ) (l : Line) → get_or states i Free ≡ Live l → claims l k ≡ true → claimed states k ≡ true
-place_claims k [] i l e h = absurd (let z : ◌≡◌ {A = ℕ} 0 1 = cc in omega (arith, z))
+place_claims k [] i l e h = clash cc
 place_claims k (s ∷ ss) zero l e h = or_left (state_claims k s) (claimed ss k) (rw e h)
 place_claims k (s ∷ ss) (suc i) l e h = or_right (state_claims k s) (claimed ss k) (place_claims k ss i l e h)
 
@@ -36,7 +37,7 @@ pub claimed_from : (k : Classes) (states : List LineState) → Claimed states k 
 claimed_from k states c =
     let live = c.live in
     ⊎_elim
-    (λ e. absurd (let none : Free ≡ Live c.line = rw (eq-eqb c.number 0 e) at live in let z : ◌≡◌ {A = ℕ} 0 1 = cc in omega (arith, z)))
+    (λ e. absurd (let none : Free ≡ Live c.line = rw (eq-eqb c.number 0 e) at live in clash cc))
     (λ ne. place_claims k states (c.number - 1) c.line (rw (ne_eqb c.number 0 ne) at live) c.claimed)
     (cases_eq c.number 0)
 
@@ -47,7 +48,7 @@ module _ {A : Type 0} (find : ℕ → Option A) where
   none_from c (suc n) h e low high = by (find c) refl (none_from (c + 1) n)
     where
       by : (o : Option A) → find c ≡ o → (first_class_of find (c + 1) n ≡ None → (e : ℕ) → c + 1 ≤ e → e < c + 1 + n → find e ≡ None) → find e ≡ None
-      by (Some x) at_c rest = absurd (let no : Some x ≡ None = rw at_c at h in let z : ◌≡◌ {A = ℕ} 0 1 = cc in omega (arith, z))
+      by (Some x) at_c rest = absurd (let no : Some x ≡ None = rw at_c at h in clash cc)
       by None at_c rest =
           ⊎_elim
           (λ same. rw same at_c)
@@ -63,7 +64,7 @@ module _ {A : Type 0} (find : ℕ → Option A) where
     pub before : (e : ℕ) → c ≤ e → e < class → find e ≡ None
 
   some_from : (c n : ℕ) (x : A) → first_class_of find c n ≡ Some x → FoundFrom c n x
-  some_from c zero x h = absurd (let z : ◌≡◌ {A = ℕ} 0 1 = cc in omega (arith, z))
+  some_from c zero x h = clash cc
   some_from c (suc n) x h = by (find c) refl (some_from (c + 1) n x)
     where
       by : (o : Option A) → find c ≡ o → (first_class_of find (c + 1) n ≡ Some x → FoundFrom (c + 1) n x) → FoundFrom c (suc n) x
@@ -92,14 +93,14 @@ module _ (counts : Counts) (states : List LineState) where
     where
       by : (b : Bool) → claimed states (here v t l u) ≡ b → claimed states (here v t l u) ≡ true
       by true e = e
-      by false e = absurd (let no : Some (here v t l u) ≡ None = rw e at h in let z : ◌≡◌ {A = ℕ} 0 1 = cc in omega (arith, z))
+      by false e = absurd (let no : Some (here v t l u) ≡ None = rw e at h in clash cc)
 
   gap_found_at : (v t l u : ℕ) (k : Classes) → gap_at counts states v t l u ≡ Some k → (k ≡ here v t l u) × (claimed states k ≡ false)
   unfolding here
   gap_found_at v t l u k h = by (claimed states (here v t l u)) refl
     where
       by : (b : Bool) → claimed states (here v t l u) ≡ b → (k ≡ here v t l u) × (claimed states k ≡ false)
-      by true e = absurd (let no : None ≡ Some k = rw e at h in let z : ◌≡◌ {A = ℕ} 0 1 = cc in omega (arith, z))
+      by true e = absurd (let no : None ≡ Some k = rw e at h in clash cc)
       by false e = let same : k ≡ here v t l u = let some : Some (here v t l u) ≡ Some k = rw e at h in cc in (same, rw same e)
 
   -- every combination that begins with these classes is claimed

@@ -1,5 +1,7 @@
 -- The search for the first gap, class by class: what remains to be searched at each point of the four loops.
-use Rattle.std.proofs.Common.{◌≡◌, ℕ, suc, ◌+◌, ◌-◌, ◌<◌, ◌≤◌, Bool, true, false, cond, ◌||◌, List, [], ◌∷◌, map, Some, None, Option, sym, refl, ap, ◌∙◌, arith}
+use Rattle.std.proofs.Common.{◌≡◌, ℕ, suc, ◌+◌, ◌-◌, ◌≤◌, Bool, true, false, cond, ◌||◌, List, [], ◌∷◌, map, Some, None, Option, sym, refl, ap, ◌∙◌, arith}
+use Rattle.std.specs.Option.{option_or}
+use Rattle.std.proofs.Math.Bool.{or_assoc, or-false}
 use Rattle.classes.specs.declared.refusal.Classes.{Classes}
 use Rattle.classes.specs.declared.refusal.Role.TheVariants.{Vehicle, Time}
 use Rattle.lines.specs.declared.sets.ClassSet.{ClassSet}
@@ -8,34 +10,27 @@ use Rattle.lines.specs.declared.states.LineState.{LineState}
 use Rattle.lines.specs.declared.states.LineState.TheVariants.{Free, Live, Withdrawn}
 use Rattle.lines.specs.Sets.{has_class, union}
 use Rattle.lines.specs.Lines.{state_claims}
-use Rattle.gaps.specs.Gaps.{claimed, kept, users_of, users_with, or_else, first_class_of, gap_at, gap_in_location, gap_in_time, gap_in_vehicle, first_gap}
+use Rattle.gaps.specs.Gaps.{claimed, kept, users_of, users_with, first_class_of, gap_at, gap_in_location, gap_in_time, gap_in_vehicle}
 use Rattle.lines.proofs.Bits.{has_union, has_none}
 
-or_else_assoc : {A : Type 0} (x y z : Option A) → or_else (or_else x y) z ≡ or_else x (or_else y z)
-or_else_assoc (Some x) y z = refl
-or_else_assoc None y z = refl
-
-or_else_none : {A : Type 0} (x : Option A) → or_else x None ≡ x
-or_else_none (Some x) = refl
-or_else_none None = refl
+option_or_assoc : {A : Type 0} (x y z : Option A) → option_or (option_or x y) z ≡ option_or x (option_or y z)
+option_or_assoc (Some x) y z = refl
+option_or_assoc None y z = refl
 
 -- classes from c to n are still to be searched, and then what comes after them
 abbrev pub remaining : {A : Type 0} → (ℕ → Option A) → ℕ → ℕ → Option A → Option A
-remaining find n c after = or_else (first_class_of find c (n + 1 - c)) after
+remaining find n c after = option_or (first_class_of find c (n + 1 - c)) after
 
 module _ {A : Type 0} (find : ℕ → Option A) (n : ℕ) (after : Option A) where
-  pub remaining_all : remaining find n 1 after ≡ or_else (first_class_of find 1 n) after
+  pub remaining_all : remaining find n 1 after ≡ option_or (first_class_of find 1 n) after
   remaining_all = let e : n + 1 - 1 ≡ n = omega arith in rw e
 
   module _ (c : ℕ) where
-    pub remaining_more : c ≤ n → remaining find n c after ≡ or_else (find c) (remaining find n (c + 1) after)
+    pub remaining_more : c ≤ n → remaining find n c after ≡ option_or (find c) (remaining find n (c + 1) after)
     remaining_more le =
         let now_left : n + 1 - c ≡ suc (n - c) = omega arith in
         let then_left : n + 1 - (c + 1) ≡ n - c = omega arith in
-        rw (now_left, then_left) (or_else_assoc (find c) (first_class_of find (c + 1) (n - c)) after)
-
-    pub remaining_none : n < c → remaining find n c after ≡ after
-    remaining_none lt = let e : n + 1 - c ≡ 0 = omega arith in rw e
+        rw (now_left, then_left) (option_or_assoc (find c) (first_class_of find (c + 1) (n - c)) after)
 
 module _ (counts : Counts) (states : List LineState) where
   abbrev pub from_vehicle : ℕ → Option Classes
@@ -49,9 +44,6 @@ module _ (counts : Counts) (states : List LineState) where
 
   abbrev pub from_user : ℕ → ℕ → ℕ → ℕ → Option Classes
   from_user v t l u = remaining (gap_at counts states v t l) counts.users u (from_location v t (l + 1))
-
-  pub start : first_gap counts states ≡ from_vehicle 1
-  start = sym (remaining_all (gap_in_vehicle counts states) counts.vehicles None ∙ or_else_none (first_gap counts states))
 
   pub into_vehicle : (v : ℕ) → v ≤ counts.vehicles → from_vehicle v ≡ from_time v 1
   into_vehicle v le =
@@ -68,21 +60,9 @@ module _ (counts : Counts) (states : List LineState) where
       remaining_more (gap_in_location counts states v t) counts.locations (from_time v (t + 1)) l le
       ∙ sym (remaining_all (gap_at counts states v t l) counts.users (from_location v t (l + 1)))
 
-  pub past_vehicles : (v : ℕ) → counts.vehicles < v → from_vehicle v ≡ None
-  past_vehicles v = remaining_none (gap_in_vehicle counts states) counts.vehicles None v
-
-  pub past_times : (v t : ℕ) → counts.times < t → from_time v t ≡ from_vehicle (v + 1)
-  past_times v = remaining_none (gap_in_time counts states v) counts.times (from_vehicle (v + 1))
-
-  pub past_locations : (v t l : ℕ) → counts.locations < l → from_location v t l ≡ from_time v (t + 1)
-  past_locations v t = remaining_none (gap_in_location counts states v t) counts.locations (from_time v (t + 1))
-
-  pub past_users : (v t l u : ℕ) → counts.users < u → from_user v t l u ≡ from_location v t (l + 1)
-  past_users v t l = remaining_none (gap_at counts states v t l) counts.users (from_location v t (l + 1))
-
   -- the last class of a combination: it is the gap, or the search goes on
   module _ (v t l u : ℕ) (le : u ≤ counts.users) where
-    gap_here : (b : Bool) → claimed states (record { vehicle = v; time = t; location = l; user = u }) ≡ b → from_user v t l u ≡ or_else (cond b None (Some (record { vehicle = v; time = t; location = l; user = u }))) (from_user v t l (u + 1))
+    gap_here : (b : Bool) → claimed states (record { vehicle = v; time = t; location = l; user = u }) ≡ b → from_user v t l u ≡ option_or (cond b None (Some (record { vehicle = v; time = t; location = l; user = u }))) (from_user v t l (u + 1))
     gap_here b e = remaining_more (gap_at counts states v t l) counts.users (from_location v t (l + 1)) u le ∙ rw e
 
     pub found_user : claimed states (record { vehicle = v; time = t; location = l; user = u }) ≡ false → from_user v t l u ≡ Some (record { vehicle = v; time = t; location = l; user = u })
@@ -111,17 +91,9 @@ module _ (k : Classes) where
       by true true false ep eq er = rw (ep, eq, er) (no_user k.user)
       by true true true ep eq er = rw (ep, eq, er) refl
 
-  or_assoc : (x y z : Bool) → ((x || y) || z) ≡ (x || (y || z))
-  or_assoc true y z = refl
-  or_assoc false y z = refl
-
-  or_false : (x : Bool) → (x || false) ≡ x
-  or_false true = refl
-  or_false false = refl
-
   users_claimed : (users : ClassSet) (states : List LineState) → has_class (users_with k.location users (map (kept Time k.time) (map (kept Vehicle k.vehicle) states))) k.user ≡ (has_class users k.user || claimed states k)
   unfolding left_of
-  users_claimed users [] = sym (or_false (has_class users k.user))
+  users_claimed users [] = sym (or-false (has_class users k.user))
   users_claimed users (s ∷ ss) =
       users_claimed (union users (left_of s)) ss
       ∙ ap (λ b. b || claimed ss k) (has_union users (left_of s) k.user ∙ ap (λ b. has_class users k.user || b) (left_claims s))

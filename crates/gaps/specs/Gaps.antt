@@ -1,6 +1,8 @@
 -- Gaps. Combinations are tried in order, the user class fastest and the vehicle class slowest; the first that no live
 -- line claims is the gap.
 use Rattle.std.specs.Prelude.{◌≡◌, ℕ, zero, suc, ◌+◌, ◌<◌, Bool, false, cond, ◌||◌, ◌⊎◌, List, [], ◌∷◌, Some, None, Option}
+use Rattle.std.specs.Option.{option_or}
+use Rattle.std.specs.List.{fold}
 use Rattle.classes.specs.declared.refusal.Classes.{Classes}
 use Rattle.classes.specs.declared.refusal.Role.{Role}
 use Rattle.lines.specs.declared.sets.ClassSet.{ClassSet}
@@ -30,18 +32,12 @@ users_of location (Withdrawn l) = record { 0 = 0 }
 
 -- those users and the users of all live lines that have the location class
 abbrev pub users_with : ℕ → ClassSet → List LineState → ClassSet
-users_with location users [] = users
-users_with location users (s ∷ ss) = users_with location (union users (users_of location s)) ss
-
--- what is found first, if anything
-abbrev pub or_else : {A : Type 0} → Option A → Option A → Option A
-or_else (Some x) next = Some x
-or_else None next = next
+users_with location users states = fold (λ found s. union found (users_of location s)) users states
 
 -- the first that is found at one of n classes, from class c on
 abbrev pub first_class_of : {A : Type 0} → (ℕ → Option A) → ℕ → ℕ → Option A
 first_class_of find c zero = None
-first_class_of find c (suc n) = or_else (find c) (first_class_of find (c + 1) n)
+first_class_of find c (suc n) = option_or (find c) (first_class_of find (c + 1) n)
 
 module _ (counts : Counts) (states : List LineState) where
   -- the combination, unless it is claimed

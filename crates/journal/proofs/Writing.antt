@@ -2,6 +2,7 @@
 use Rattle.std.proofs.Common.{◌≡◌, ℕ, ◌+◌, List, length, take, drop, Some, None, Option, ap, ◌∙◌, arith}
 use Rattle.std.proofs.lemmas.List.{take-append-le, take_all}
 use Rattle.classes.specs.Outcomes.{accepted}
+use Rattle.classes.proofs.Clash.{clash}
 use Rattle.contents.specs.Calls.{Refused, answered}
 use Rattle.sheet.specs.Refusals.{left_by}
 use Rattle.sheet.specs.Fields.{written}
@@ -12,7 +13,7 @@ unfolding written
 front bytes space = take-append-le (length bytes) bytes (drop (0 + length bytes) space) (omega arith) ∙ take_all (length bytes) bytes (omega arith)
 
 pub sheet_front : (r : Option Refused) (sheet before after : List ℕ) (end : ℕ) → accepted end ≡ answered r (length sheet) → after ≡ left_by r before (written 0 sheet before) → wrote (take end after) ≡ told_by r (wrote sheet)
-sheet_front (Some x) sheet before after end answers left = absurd (let z : ◌≡◌ {A = ℕ} 0 1 = cc in omega (arith, z))
+sheet_front (Some x) sheet before after end answers left = clash cc
 sheet_front None sheet before after end answers left =
     let ends : end ≡ length sheet = cc in
     ap wrote (rw (left, ends) (front sheet before))

@@ -1,7 +1,6 @@
 // A call of a book with its own arguments, and what a call answers, as values.
 use charging::Price;
-use classes::Usage;
-use contents::Refusal;
+use classes::{Determinants, Usage};
 use lines::{Counts, Line};
 use sheet::SheetRefusal;
 use tariff::Terms;
@@ -18,10 +17,7 @@ pub enum Call<'a, V, T, L, U> {
     Reopen,
     // A usage, and the four determinants that class it.
     Price {
-        vehicle: &'a V,
-        time: &'a T,
-        location: &'a L,
-        user: &'a U,
+        determinants: Determinants<'a, V, T, L, U>,
         usage: Usage,
     },
     // The bytes of a sheet.
@@ -30,14 +26,16 @@ pub enum Call<'a, V, T, L, U> {
     Write(usize),
 }
 
+// What a call answers that is not refused.
 #[derive(Drop)]
-pub enum Answer {
+pub enum Accepted {
     Done,
     // The version that was issued.
     Version(u8),
     Price(Price),
     // The bytes of the sheet.
     Wrote(Vec<u8>),
-    Refused(Refusal),
-    SheetRefused(SheetRefusal),
 }
+
+// A refusal of the book is one of a call on a sheet too.
+pub type Answer = Result<Accepted, SheetRefusal>;

@@ -5,6 +5,6 @@ mod call;
 mod runs;
 mod text;
 
-pub use call::{Answer, Call};
+pub use call::{Accepted, Answer, Call};
 pub use runs::replay;
 pub use text::{answer_line, refused_line};

@@ -12,7 +12,8 @@ use Rattle.contents.specs.declared.contents.Contents.{Contents}
 use Rattle.contents.specs.declared.contents.Phase.TheVariants.{Blank, Draft, Issued}
 use Rattle.contents.specs.Contents.{tariff_at, line_at}
 use Rattle.contents.specs.Calls.{Refused, open_refusal, put_refusal, add_refusal, withdraw_refusal, restore_refusal, strike_refusal, issue_refusal, reopen_refusal}
-use Rattle.charging.specs.Prices.{Meanings, classes_of, count_refusal, class_refusal, price_refusal}
+use Rattle.classes.specs.Determinants.{Meanings}
+use Rattle.charging.specs.Prices.{classes_of, count_refusal, class_refusal, price_refusal}
 use Rattle.book.specs.Sound.{Sound}
 use Rattle.law.specs.Conditions.{Clear, SameCounts, Classed, MayOpen, MayPut, MayAdd, MayWithdraw, MayRestore, MayStrike, MayIssue, MayReopen, MayPrice, MayRead, MayWrite, May}
 use Rattle.law.specs.Histories.{Asked, open_call, put_call, add_call, withdraw_call, restore_call, strike_call, issue_call, reopen_call, price_call, read_call, write_call, ReadsBytes, refusal_of}
@@ -24,6 +25,7 @@ use Rattle.sheet.specs.Writing.{sheet_of, write_refusal}
 use Rattle.sheet.proofs.Accepted.{acceptable_accepted}
 use Rattle.sheet.proofs.Remaining.{accepted_acceptable}
 use Rattle.classes.specs.Outcomes.{Outcome, accepted, refusal}
+use Rattle.classes.proofs.Clash.{clash}
 use Rattle.std.specs.Int.Digits.{AllBelowBase}
 use Rattle.law.proofs.Tests.{phase_tested, other_phase_tested, at_most_tested, within_tested, counts_tested, terms_tested, free_tested, live_tested, withdrawn_tested, some_tested, line_tested, amounts_tested}
 
@@ -118,7 +120,7 @@ sheet_tested bytes small = (by (sheet_outcome bytes) refl, λ a. ap refused_in (
   where
     by : (o : Outcome Contents) → sheet_outcome bytes ≡ o → refused_in o ≡ None → (held : Contents) × Acceptable bytes held
     by (accepted b) at none = (b, accepted_acceptable bytes b small at)
-    by (refusal r) at none = absurd (let z : ◌≡◌ {A = ℕ} 0 1 = cc in omega (arith, z))
+    by (refusal r) at none = clash cc
 
 pub may_read : (b : Contents) (bytes : List ℕ) → AllBelowBase 256 bytes → NoRefusal (read_refusal b bytes) (MayRead b bytes)
 may_read b bytes small =

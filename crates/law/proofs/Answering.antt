@@ -13,7 +13,9 @@ use Rattle.contents.specs.declared.contents.Phase.TheVariants.{Draft}
 use Rattle.contents.specs.Contents.{in_phase, line_at}
 use Rattle.contents.specs.Calls.{Refused, answered, settled, gap_with, add_refusal, restore_refusal}
 use Rattle.charging.specs.declared.pricing.Price.{Price}
-use Rattle.charging.specs.Prices.{Meanings, classes_of, amounts_of, price_refusal, price_of, priced}
+use Rattle.classes.specs.Determinants.{Meanings}
+use Rattle.classes.proofs.Clash.{clash}
+use Rattle.charging.specs.Prices.{classes_of, amounts_of, price_refusal, price_of, priced}
 use Rattle.sheet.specs.Acceptable.{Acceptable}
 use Rattle.sheet.specs.Reading.{read_refusal, sheet_contents}
 use Rattle.std.specs.Int.Digits.{AllBelowBase}
@@ -45,7 +47,7 @@ acceptance_accepts b (write_call space) = refl
 -- an answer is an acceptance exactly when there is no refusal
 pub told_tested : (r : Option Refused) (t : Told) → is_acceptance t ≡ true → Decides (is_acceptance (told_by r t)) (r ≡ None)
 told_tested None t yes-told = (λ _. refl, λ _. yes-told)
-told_tested (Some x) t yes-told = (λ h. absurd (false≢true h), λ e. absurd (let z : ◌≡◌ {A = ℕ} 0 1 = cc in omega (arith, z)))
+told_tested (Some x) t yes-told = (λ h. absurd (false≢true h), λ e. clash cc)
 
 pub accepted_exactly : (b : Contents) (a : Asked) → Sound b → ReadsBytes a → Decides (is_acceptance (answer_to b a)) (May b a)
 accepted_exactly b a s bytes =
@@ -55,7 +57,7 @@ accepted_exactly b a s bytes =
 
 -- a refusal that is answered is the refusal of the call
 refused_by : (r : Option Refused) (x : Refused) → told_by r done ≡ refused x → r ≡ Some x
-refused_by None x e = absurd (let z : ◌≡◌ {A = ℕ} 0 1 = cc in omega (arith, z))
+refused_by None x e = clash cc
 refused_by (Some y) x e = cc
 
 module _ (b : Contents) (n : ℕ) (l : Line) (m : ℕ) (s : Sound b) where
@@ -78,7 +80,7 @@ issue_answered b draft below =
         let gap = first_gap_found b.counts b.lines.states k e in
         record {
           next_version = λ whole. absurd (gap.unclaimed (whole k gap.combination));
-          only_whole = λ same. absurd (let z : ◌≡◌ {A = ℕ} 0 1 = cc in omega (arith, z));
+          only_whole = λ same. clash cc;
           else_gap = λ _. record { gap = k; named = refl; first = gap };
         }
 

@@ -1,6 +1,7 @@
 -- Overlaps and gaps: what the search for one finds, as a condition on the live lines.
 use Rattle.std.proofs.Common.{◌≡◌, ℕ, true, Some, None, Option, refl, arith}
 use Rattle.classes.specs.declared.refusal.Classes.{Classes}
+use Rattle.classes.proofs.Clash.{clash}
 use Rattle.lines.specs.declared.states.Line.{Line}
 use Rattle.lines.specs.declared.states.LineState.TheVariants.{Withdrawn}
 use Rattle.lines.specs.Sets.{counts_in_range}
@@ -45,6 +46,6 @@ gap_tested b = by (first_gap b.counts b.lines.states) refl
     by : (o : Option Classes) → first_gap b.counts b.lines.states ≡ o → NoRefusal (gap_with o) (NoGap b.counts b.lines.states)
     by None e = (λ _. no_gap b.counts b.lines.states e, λ _. refl)
     by (Some k) e = (
-      λ none. absurd (let z : ◌≡◌ {A = ℕ} 0 1 = cc in omega (arith, z)),
+      λ none. clash cc,
       λ whole. let gap = first_gap_found b.counts b.lines.states k e in absurd (gap.unclaimed (whole k gap.combination)),
     )

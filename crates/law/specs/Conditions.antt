@@ -17,7 +17,8 @@ use Rattle.contents.specs.declared.contents.Phase.TheVariants.{Blank, Draft, Iss
 use Rattle.contents.specs.Contents.{tariff_at, line_at}
 use Rattle.sheet.specs.Acceptable.{Acceptable}
 use Rattle.sheet.specs.Writing.{sheet_of}
-use Rattle.charging.specs.Prices.{Meanings, classes_of}
+use Rattle.classes.specs.Determinants.{Meanings}
+use Rattle.charging.specs.Prices.{classes_of}
 use Rattle.law.specs.Histories.{Asked, open_call, put_call, add_call, withdraw_call, restore_call, strike_call, issue_call, reopen_call, price_call, read_call, write_call}
 
 -- a number from low to high

@@ -13,7 +13,8 @@ use Rattle.contents.specs.Calls.{Refused, open_refusal, opened, put_refusal, sto
 use Rattle.sheet.specs.Reading.{read_refusal, sheet_contents}
 use Rattle.sheet.specs.Writing.{write_refusal, sheet_of}
 use Rattle.charging.specs.declared.pricing.Price.{Price}
-use Rattle.charging.specs.Prices.{Meanings, price_refusal, priced}
+use Rattle.classes.specs.Determinants.{Meanings}
+use Rattle.charging.specs.Prices.{price_refusal, priced}
 
 -- a call with its own arguments; a price call is held by what its four determinants mean
 pub data Asked : Type 0 where

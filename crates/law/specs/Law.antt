@@ -11,7 +11,8 @@ use Rattle.contents.specs.declared.contents.Phase.TheVariants.{Draft}
 use Rattle.contents.specs.Contents.{line_at}
 use Rattle.contents.specs.Refusals.{gap_values}
 use Rattle.charging.specs.declared.pricing.Price.{Price}
-use Rattle.charging.specs.Prices.{Meanings, classes_of, amounts_of, OneLine}
+use Rattle.classes.specs.Determinants.{Meanings}
+use Rattle.charging.specs.Prices.{classes_of, amounts_of, OneLine}
 use Rattle.sheet.specs.Acceptable.{Acceptable}
 use Rattle.book.specs.Laws.{LowestOverlap}
 use Rattle.book.specs.Sound.{AtMostOne}

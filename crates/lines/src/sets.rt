@@ -15,7 +15,7 @@ impl ClassSet {
     pub fn has(self, class: u8) -> bool
         ensures { result ≡ has_class self class }
     {
-        class >= 1 && class <= Self::HIGHEST_CLASS && (self.0 >> (class - 1)) % 2 == 1
+        (1..=Self::HIGHEST_CLASS).contains(&class) && (self.0 >> (class - 1)) % 2 == 1
     }
 
     // Whether the set has a class, and none above the count.
@@ -46,7 +46,7 @@ impl ClassSet {
     }
 }
 
-// How many classes each determinant has.
+// How many classes each determinant has. Four numbers as `Classes` are, and a type of its own: a count is no class.
 #[derive(Clone, Copy)]
 pub struct Counts {
     pub vehicles: u8,
@@ -59,7 +59,7 @@ pub struct Counts {
 fn count_in_range(count: u8) -> bool
     ensures { result ≡ count_in_range count }
 {
-    count >= 1 && count <= ClassSet::HIGHEST_CLASS
+    (1..=ClassSet::HIGHEST_CLASS).contains(&count)
 }
 
 impl Counts {

@@ -63,12 +63,6 @@ impl Line {
         ensures value { result ≡ lines_meet self.now other.now }
         ensures meaning { (c : Counts) → counts_in_range c ≡ true → line_fits c self.now ≡ true → Decides result (Overlap c self.now other.now) }
     {
-        self.meets(other)
-    }
-
-    fn meets(&self, other: &Line) -> bool
-        ensures { result ≡ lines_meet self.now other.now }
-    {
         self.vehicles.meets(other.vehicles)
             && self.times.meets(other.times)
             && self.locations.meets(other.locations)

@@ -4,13 +4,13 @@
 mod scheme;
 
 use quotes::{quote_line, quote_trip};
-use scheme::{LOCATIONS, PRICES, TIMES, TRIPS, USERS, VEHICLES};
+use scheme::{PRICES, SCHEME, TRIPS};
 use std::io;
 
 fn main(rt: HostRuntime) -> io::Result<()> {
-    for (i, trip) in TRIPS.iter().enumerate() {
-        let answer = quote_trip(&VEHICLES, &TIMES, &LOCATIONS, &USERS, &PRICES, trip);
-        rt.println(quote_line(rt.alloc(), i + 1, answer)?)?;
+    for (number, trip) in (1..).zip(&TRIPS) {
+        let answer = quote_trip(&SCHEME, &PRICES, trip);
+        rt.println(quote_line(rt.alloc(), number, answer)?)?;
     }
     Ok(())
 }

@@ -1,7 +1,7 @@
 // A heavy-goods scheme: its classes, its rates, and a dozen trips.
 use classes::{
-    Band, ContractKey, Instant, Locations, ObjectKey, Period, Rule, Span, Times, Usage, Users,
-    Vehicles,
+    Band, ContractKey, Determinants, Instant, Locations, ObjectKey, Period, Rule, Span, Times,
+    Usage, Users, Vehicles,
 };
 use quotes::{PriceList, Rate};
 use tariff::{Measure, Rounding, Tariff};
@@ -85,9 +85,9 @@ const RULES: [Rule; 8] = [
     },
 ];
 
-pub const VEHICLES: Vehicles = Vehicles {
+const VEHICLES: Vehicles = Vehicles {
     count: 8,
-    rules: &RULES,
+    entries: &RULES,
 };
 
 // Monday to Saturday: heavy goods vehicles rest on Sundays.
@@ -114,9 +114,9 @@ const PERIODS: [Period; 3] = [
     },
 ];
 
-pub const TIMES: Times = Times {
+const TIMES: Times = Times {
     count: 2,
-    periods: &PERIODS,
+    entries: &PERIODS,
 };
 
 // Partition 1 has the motorways up to object 9,999, and then the trunk roads.
@@ -145,9 +145,9 @@ const ROADS: [Span<ObjectKey>; 2] = [
     },
 ];
 
-pub const LOCATIONS: Locations = Locations {
+const LOCATIONS: Locations = Locations {
     count: 2,
-    spans: &ROADS,
+    entries: &ROADS,
 };
 
 const CONTRACTS: [Span<ContractKey>; 2] = [
@@ -163,9 +163,16 @@ const CONTRACTS: [Span<ContractKey>; 2] = [
     },
 ];
 
-pub const USERS: Users = Users {
+const USERS: Users = Users {
     count: 2,
-    spans: &CONTRACTS,
+    entries: &CONTRACTS,
+};
+
+pub const SCHEME: Determinants<Vehicles, Times, Locations, Users> = Determinants {
+    vehicle: &VEHICLES,
+    time: &TIMES,
+    location: &LOCATIONS,
+    user: &USERS,
 };
 
 // Cents for ten kilometres: 19.9 cents a kilometre for clean heavy vehicles on motorways, and so on.

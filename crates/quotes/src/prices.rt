@@ -1,10 +1,13 @@
 // A price list: one general tariff, and rates of their own for some vehicle and location classes.
 ghost use Rattle.std.specs.Prelude.{◌≡◌};
+ghost use Rattle.std.specs.List.{find};
+ghost use Rattle.std.specs.Option.{option_map};
+ghost use Rattle.classes.specs.Determinants.{meanings_of};
 ghost use Rattle.classes.specs.Outcomes.{outcome};
 ghost use Rattle.quotes.specs.Quotes.{is_for, tariff_for, quote_outcome};
 
 use charging::amounts_of;
-use classes::{Classes, Determinant, Refusal, Usage, classify};
+use classes::{Classes, Determinant, Determinants, Refusal, Usage};
 use tariff::{Charge, Tariff};
 
 // What a unit costs in these classes.
@@ -36,34 +39,36 @@ impl Rate {
 }
 
 impl PriceList<'_> {
+    // The first rate for the classes, if there is one.
+    fn rate_for(&self, classes: &Classes) -> Option<&Rate>
+        ensures { option_map (λ r. r.now) result ≡ find (λ r. is_for r classes.now) self.now.rates.now }
+    {
+        self.rates.iter().find(|rate| rate.is_for(classes))
+    }
+
     // The general tariff, at the first rate for the classes, if there is one.
     pub fn tariff_for(&self, classes: &Classes) -> Tariff
         ensures { result ≡ tariff_for self.now.general self.now.rates.now classes.now }
     {
-        for rate in self.rates {
-            if rate.is_for(classes) {
-                return Tariff {
-                    rate: rate.rate,
-                    ..self.general
-                };
-            }
+        match self.rate_for(classes) {
+            Some(found) => Tariff {
+                rate: found.rate,
+                ..self.general
+            },
+            None => self.general,
         }
-        self.general
     }
 }
 
 // The classes of a trip and what it costs, or the first determinant that gives it no class.
 pub fn quote_trip<V: Determinant, T: Determinant, L: Determinant, U: Determinant>(
-    vehicle: &V,
-    time: &T,
-    location: &L,
-    user: &U,
+    determinants: &Determinants<V, T, L, U>,
     prices: &PriceList,
     usage: &Usage,
 ) -> Result<Quote, Refusal>
-    ensures { outcome result ≡ quote_outcome prices.now.general prices.now.rates.now usage.now (V.meaning vehicle.now) (T.meaning time.now) (L.meaning location.now) (U.meaning user.now) }
+    ensures { outcome result ≡ quote_outcome prices.now.general prices.now.rates.now usage.now (meanings_of V.meaning T.meaning L.meaning U.meaning determinants.now) }
 {
-    let classes = classify(vehicle, time, location, user, usage)?;
+    let classes = determinants.classify(usage)?;
     let charge = prices.tariff_for(&classes).charge(&amounts_of(usage));
     Ok(Quote { classes, charge })
 }

@@ -18,6 +18,7 @@ impl fmt::Display for Quote {
     }
 }
 
+// What it shares with the line of an answer, in another crate, is one `format!`.
 // The line of the trip with this number: "3 classes 2 1 1 2 fee 506 vat 96", or "4 refused 16 by 2".
 pub fn quote_line(
     heap: Global,

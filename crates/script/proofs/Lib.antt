@@ -1,8 +1,7 @@
-pub mod Cuts
+pub mod Cutting
 pub mod Digits
 pub mod FirstWord
 pub mod Naming
 pub mod Progress
 pub mod Refusals
 pub mod Runs
-pub mod Visible

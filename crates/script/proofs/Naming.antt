@@ -1,7 +1,8 @@
 -- The classes of a set are those that an item of its word names.
-use Rattle.std.proofs.Common.{◌≡◌, ℕ, zero, suc, ◌+◌, ◌-◌, ◌*◌, ◌/◌, ◌%◌, ◌^◌, ◌<◌, ◌≤◌, Bool, true, false, ◌&&◌, ◌||◌, eqb, ltb, leb, List, [], ◌∷◌, IfSome, Some, None, Option, sym, refl, ap, ◌∙◌, ⊎_elim, one-mul, arith, pow-add}
-use lib.Pow.{pow-lt, shl-shr}
-use Rattle.std.proofs.lemmas.Nat.{pow_pos, div_below, mod-mul-add}
+use Rattle.std.proofs.Common.{◌≡◌, ℕ, zero, suc, ◌+◌, ◌-◌, ◌*◌, ◌/◌, ◌%◌, ◌^◌, ◌<◌, ◌≤◌, true, ◌&&◌, ◌||◌, eqb, ltb, leb, List, [], ◌∷◌, IfSome, Some, None, Option, sym, refl, ap, ◌∙◌, ⊎_elim, one-mul, arith, pow-add}
+use Rattle.std.proofs.Math.Pow.{pow-lt}
+use Rattle.std.proofs.Math.Bool.{or_assoc, or-false}
+use Rattle.std.proofs.lemmas.Nat.{pow_pos, div_below, mod-mul-add, shl-shr}
 use Rattle.std.proofs.lemmas.Bool.{cases_Bool, cases_eq, cases_order, and_parts, and_from, leb-true, le-leb, eq-eqb, ne_eqb, cond_both}
 use Rattle.std.proofs.lemmas.Bool.Decides.{nat_tests}
 use Rattle.lines.specs.declared.sets.ClassSet.{ClassSet}
@@ -11,6 +12,7 @@ use Rattle.script.specs.Numbers.{value_behind}
 use Rattle.script.specs.Pieces.{pieces}
 use Rattle.script.specs.Sets.{no_classes, single, run, from_one, class_of, ends_of, ends_between, item_ends, range_of, both, union_from, items_of, set_of, between_ends, named, Named}
 use Rattle.script.proofs.Runs.{union_none}
+use Rattle.classes.proofs.Clash.{clash}
 
 -- the one bit of a power of two
 own_bit : (k : ℕ) → 2 ^ k / 2 ^ k % 2 ≡ 1
@@ -83,24 +85,16 @@ has_between p c read =
     let same : (leb p.0 c && ltb c (p.0 + (p.1 + 1 - p.0))) ≡ (leb p.0 c && leb c p.1) = grind (arith, nat_tests) in
     has_run p.0 (p.1 + 1 - p.0) c read.0 (omega arith) ∙ same
 
-or_none : (x : Bool) → x ≡ (x || false)
-or_none true = refl
-or_none false = refl
-
-or_assoc : (x y z : Bool) → ((x || y) || z) ≡ (x || (y || z))
-or_assoc true y z = refl
-or_assoc false y z = refl
-
 -- one item more
 item_more : (ps : List (List ℕ)) (s t : ClassSet) (c : ℕ) (o : Option (ℕ × ℕ)) → EndsRead o → ((u : ClassSet) → union_from (Some u) ps ≡ Some t → has_class t c ≡ (has_class u c || named ps c)) → union_from (both (Some s) (range_of o)) ps ≡ Some t → has_class t c ≡ (has_class s c || (between_ends o c || named ps c))
-item_more ps s t c None read rest e = let z : ◌≡◌ {A = ℕ} 0 1 = cc (union_none ps) in absurd (omega arith)
+item_more ps s t c None read rest e = clash (cc (union_none ps))
 item_more ps s t c (Some p) read rest e =
     rest _ e ∙ ap (λ b. b || named ps c) (has_union s (run p.0 (p.1 + 1 - p.0)) c ∙ ap (λ b. has_class s c || b) (has_between p c read)) ∙ or_assoc (has_class s c) (between_ends (Some p) c) (named ps c)
 
 union_named : (ps : List (List ℕ)) (s t : ClassSet) (c : ℕ) → union_from (Some s) ps ≡ Some t → has_class t c ≡ (has_class s c || named ps c)
 union_named [] s t c e =
     let same : t ≡ s = cc in
-    ap (λ u. has_class u c) same ∙ or_none (has_class s c)
+    ap (λ u. has_class u c) same ∙ sym (or-false (has_class s c))
 union_named (p ∷ ps) s t c e = item_more ps s t c (item_ends p) (pieces_read (pieces 45 p)) (λ u. union_named ps u t c) e
 
 pub set_named : (w : List ℕ) (r : Option ClassSet) → r ≡ set_of w → IfSome r (Named w)

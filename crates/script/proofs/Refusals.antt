@@ -6,6 +6,7 @@ use Rattle.script.specs.declared.scripts.Step.{Step}
 use Rattle.script.specs.Fields.{Word}
 use Rattle.script.specs.Pieces.{pieces}
 use Rattle.script.specs.Scripts.{is_sound, first_unsound, unless_refused, script_of, Failed, ErrorMeaning}
+use Rattle.classes.proofs.Clash.{clash}
 
 -- every line is sound
 abbrev AllSound : List (List ℕ) → Type 0
@@ -22,7 +23,7 @@ pub record FirstAt (k n : ℕ) (ls : List (List ℕ)) : Type 0 where
 sound_first : (l : List ℕ) (ls : List (List ℕ)) (k : ℕ) (t : Bool) → is_sound l ≡ t → (first_unsound (k + 1) ls ≡ None → AllSound ls) → cond t (first_unsound (k + 1) ls) (Some k) ≡ None → AllSound (l ∷ ls)
 sound_first l ls k true e rest none zero within = e
 sound_first l ls k true e rest none (suc m) within = rest none m (omega arith)
-sound_first l ls k false e rest none m within = let z : ◌≡◌ {A = ℕ} 0 1 = cc in absurd (omega arith)
+sound_first l ls k false e rest none m within = clash cc
 
 all_sound : (ls : List (List ℕ)) (k : ℕ) → first_unsound k ls ≡ None → AllSound ls
 all_sound [] k none = λ m within. absurd (omega arith)
@@ -53,16 +54,16 @@ place_first l ls k n false e rest some =
     }
 
 first_at : (ls : List (List ℕ)) (k n : ℕ) → first_unsound k ls ≡ Some n → FirstAt k n ls
-first_at [] k n some = let z : ◌≡◌ {A = ℕ} 0 1 = cc in absurd (omega arith)
+first_at [] k n some = clash cc
 first_at (l ∷ ls) k n some = place_first l ls k n (is_sound l) refl (first_at ls (k + 1) n) some
 
 -- which of the two a script is
 none_refused : (o : Option ℕ) (steps given : List (Step Word)) → Ok given ≡ unless_refused o steps → o ≡ None
 none_refused None steps given e = refl
-none_refused (Some n) steps given e = let z : ◌≡◌ {A = ℕ} 0 1 = cc in absurd (omega arith)
+none_refused (Some n) steps given e = clash cc
 
 one_refused : (o : Option ℕ) (steps : List (Step Word)) (n : ℕ) → Err n ≡ unless_refused o steps → o ≡ Some n
-one_refused None steps n e = let z : ◌≡◌ {A = ℕ} 0 1 = cc in absurd (omega arith)
+one_refused None steps n e = clash cc
 one_refused (Some m) steps n e = cc
 
 module _ (text : List ℕ) where

@@ -6,7 +6,7 @@ use Rattle.script.specs.declared.commands.Command.TheVariants.{Open, Put, Add, W
 use Rattle.script.specs.declared.commands.Verb.{Verb}
 use Rattle.script.specs.declared.commands.Verb.TheVariants as verb
 use Rattle.script.specs.Fields.{Word, then, first_by, u8_field, u16_field, counts_fields, terms_fields, line_fields, usage_fields}
-use Rattle.script.specs.Pieces.{pieces, filled}
+use Rattle.script.specs.Pieces.{words_of}
 
 -- the verb that a word is
 abbrev pub verb_of : Word → Option Verb
@@ -55,10 +55,6 @@ command_fields verb.Write ws = then (first_by Some ws) λ name ws. Some (Write n
 abbrev pub at_end : {X : Type 0} → X → List Word → Option X
 at_end x [] = Some x
 at_end x (w ∷ ws) = None
-
--- the words of a line: only spaces stand between them
-abbrev pub words_of : List ℕ → List Word
-words_of line = filled (pieces 32 line)
 
 -- the command that a line writes
 abbrev pub command_of : List ℕ → Option (Command Word)

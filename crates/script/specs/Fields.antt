@@ -5,19 +5,13 @@ use Rattle.lines.specs.declared.sets.ClassSet.{ClassSet}
 use Rattle.lines.specs.declared.sets.Counts.{Counts}
 use Rattle.lines.specs.declared.states.Line.{Line}
 use Rattle.tariff.specs.declared.terms.Terms.{Terms}
-use Rattle.script.specs.declared.pieces.Pieces.{Pieces}
 use Rattle.script.specs.Padding.{contract_of}
 use Rattle.script.specs.Numbers.{number_of}
-use Rattle.script.specs.Pieces.{left, filled}
 use Rattle.script.specs.Sets.{set_of}
 
 -- the bytes of a word
 abbrev pub Word : Type 0
 Word = List ℕ
-
--- the words that were not read yet
-abbrev pub words_left : Pieces → List Word
-words_left p = filled (left p)
 
 -- what was read, with the words that it left
 abbrev pub with_rest : {X : Type 0} → Option X → List Word → Option (X × List Word)

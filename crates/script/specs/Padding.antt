@@ -1,5 +1,6 @@
 -- Contracts as words: up to eight visible ASCII characters, with spaces behind.
-use Rattle.std.specs.Prelude.{ℕ, ◌-◌, Bool, true, cond, ◌&&◌, List, [], ◌∷◌, ◌++◌, length, replicate, Some, None, Option, nat_le}
+use Rattle.std.specs.Prelude.{ℕ, ◌-◌, Bool, cond, ◌&&◌, List, ◌++◌, length, replicate, Some, None, Option, nat_le}
+use Rattle.std.specs.List.{list_all}
 
 -- a character from "!" to "~"
 abbrev pub is_visible : ℕ → Bool
@@ -7,8 +8,7 @@ is_visible b = nat_le 33 b && nat_le b 126
 
 -- every byte is such a character
 abbrev pub visible_only : List ℕ → Bool
-visible_only [] = true
-visible_only (b ∷ bs) = is_visible b && visible_only bs
+visible_only w = list_all is_visible w
 
 -- eight bytes: the text, and then spaces
 abbrev pub padded : List ℕ → List ℕ

@@ -5,9 +5,9 @@ mod commands;
 mod contracts;
 mod fields;
 mod numbers;
-mod pieces;
 mod scripts;
 mod sets;
+mod words;
 
 pub use commands::Command;
 pub use scripts::{ScriptError, Step, parse_script};

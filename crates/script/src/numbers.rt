@@ -14,7 +14,8 @@ fn digit(byte: u8) -> Option<u8>
     }
 }
 
-// The number that a word writes in decimal, if it is at most so much.
+// The number that a word writes in decimal, if it is at most so much. By hand, since the library's `parse` takes a sign.
+#[tactic(auto, using(crate::proofs::Digits::number_is, crate::proofs::Digits::too_large_next, crate::proofs::Digits::digit_next, crate::proofs::Digits::no_digit, crate::proofs::Digits::digits_end))]
 pub(crate) fn number(word: &[u8], most: u32) -> Option<u32>
     ensures value { result ≡ number_of most word.now }
     ensures bound { IfSome result (λ n. n ≤ most) }
@@ -29,5 +30,5 @@ pub(crate) fn number(word: &[u8], most: u32) -> Option<u32>
             return None;
         }
     }
-    Some(value as u32)
+    u32::try_from(value).ok()
 }

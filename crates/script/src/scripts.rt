@@ -1,11 +1,10 @@
 // Whole scripts: the steps of the lines, or the line at which a script is refused.
-ghost use Rattle.std.specs.Prelude.{◌≡◌};
+ghost use Rattle.std.specs.Prelude.{◌≡◌, ◌+◌, ◌^◌, ◌<◌};
 ghost use Rattle.script.specs.declared.scripts.ScriptError.TheVariants.{NoMemory};
 ghost use Rattle.script.specs.Pieces.{pieces};
 ghost use Rattle.script.specs.Scripts.{Added, Told, AnswerMeaning, script_of};
 
 use crate::commands::{Command, command_on, passed_over};
-use crate::pieces::Pieces;
 use std::alloc::{AllocFailed, Global};
 
 const LINE_SEPARATOR: u8 = b'\n';
@@ -33,20 +32,22 @@ impl<T: Drop> From<AllocFailed<T>> for ScriptError {
     }
 }
 
-// Puts the command of a line behind the steps, unless the line is passed over.
+// Puts the command of a line, with so many lines before it, behind the steps, unless the line is passed over. A text has
+// fewer lines than 64 bits count, which `enumerate` knows.
+#[tactic(auto, using(crate::proofs::Progress::step_put))]
 fn add_line<'a>(
     steps: &mut Vec<Step<&'a [u8]>>,
-    number: usize,
+    before: usize,
     line: &'a [u8],
 ) -> Result<(), ScriptError>
-    ensures { Added steps.old.items number line.now steps.new.items result }
+    requires { before + 1 < 2 ^ 64 }
+    ensures { Added steps.old.items (before + 1) line.now steps.new.items result }
 {
     if passed_over(line) {
         return Ok(());
     }
-    let Some(command) = command_on(line) else {
-        return Err(ScriptError::Refused(number));
-    };
+    let number = before + 1;
+    let command = command_on(line).ok_or(ScriptError::Refused(number))?;
     steps.push(Step {
         line: number,
         command,
@@ -60,11 +61,8 @@ pub fn parse_script<'a>(heap: Global, text: &'a [u8]) -> Result<Vec<Step<&'a [u8
     ensures meaning { AnswerMeaning result (pieces 10 text.now) }
 {
     let mut steps = Vec::new(heap);
-    let mut lines = Pieces::new(text, LINE_SEPARATOR);
-    let mut number = 0;
-    while let Some(line) = lines.next() {
-        number += 1;
-        add_line(&mut steps, number, line)?;
+    for (before, line) in text.split(|byte| *byte == LINE_SEPARATOR).enumerate() {
+        add_line(&mut steps, before, line)?;
     }
     Ok(steps)
 }

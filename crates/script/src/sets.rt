@@ -1,9 +1,9 @@
 // Class sets as words: "1,3-5" and the like, and "-" for the empty set.
-ghost use Rattle.std.specs.Prelude.{◌≡◌, ◌+◌, ◌-◌, ◌≤◌, IfSome};
-ghost use Rattle.script.specs.Sets.{single, run, class_of, item_of, set_of, Named};
+ghost use Rattle.std.specs.Prelude.{◌≡◌, ◌≤◌, Some, None, IfSome, MatchOption};
+ghost use Rattle.std.specs.Option.{option_map};
+ghost use Rattle.script.specs.Sets.{single, class_of, ends_of, item_ends, range_of, item_of, set_of, Named};
 
 use crate::numbers::number;
-use crate::pieces::{Pieces, same};
 use lines::ClassSet;
 
 const EMPTY_SET: &[u8] = b"-";
@@ -12,7 +12,29 @@ const ITEM_SEPARATOR: u8 = b',';
 
 const RANGE_SEPARATOR: u8 = b'-';
 
-// The set of one class.
+// A class from 1 to 64.
+#[derive(Clone, Copy)]
+struct Class {
+    number: u8,
+    ghost low: { 1 ≤ number },
+    ghost high: { number ≤ 64 },
+}
+
+impl Class {
+    fn from_word(word: &[u8]) -> Option<Class>
+        ensures { option_map (λ c. c.number) result ≡ class_of word.now }
+    {
+        let number = number(word, u32::from(ClassSet::HIGHEST_CLASS))?;
+        let number = u8::try_from(number).ok()?;
+        if number >= 1 {
+            Some(Class { number })
+        } else {
+            None
+        }
+    }
+}
+
+// The set of one class. Written inside `range` it was tried, and the goal of `range` did not close.
 fn single(class: u8) -> ClassSet
     requires low { 1 ≤ class }
     requires high { class ≤ 64 }
@@ -21,56 +43,53 @@ fn single(class: u8) -> ClassSet
     ClassSet(1 << (class - 1))
 }
 
-// The classes from one to another.
-fn range(low: u8, high: u8) -> ClassSet
-    requires low { 1 ≤ low }
-    requires order { low ≤ high }
-    requires high { high ≤ 64 }
-    ensures { result ≡ run low (high + 1 - low) }
+// The classes from one to another, unless they fall.
+#[tactic(auto, using(crate::proofs::Runs::run_more))]
+fn range(low: Class, high: Class) -> Option<ClassSet>
+    ensures { result ≡ range_of (ends_of (Some low.number) (Some high.number)) }
 {
+    if high.number < low.number {
+        return None;
+    }
     let mut set = ClassSet::EMPTY;
-    for class in low..=high {
+    for class in low.number..=high.number {
         set = set.union(single(class));
     }
-    set
+    Some(set)
 }
 
-// A class from 1 to 64.
-fn class(word: &[u8]) -> Option<u8>
-    ensures value { result ≡ class_of word.now }
-    ensures bound { IfSome result (λ n. (1 ≤ n) × (n ≤ 64)) }
+// The first and the last end of an item; a class alone is both.
+fn ends(word: &[u8]) -> Option<(&[u8], &[u8])>
+    ensures { MatchOption result
+        (item_ends word.now ≡ None)
+        (λ p. item_ends word.now ≡ ends_of (class_of p.0.now) (class_of p.1.now)) }
 {
-    let class = number(word, u32::from(ClassSet::HIGHEST_CLASS))?;
-    if class >= 1 { Some(class as u8) } else { None }
+    let mut ends = word.split(|byte| *byte == RANGE_SEPARATOR);
+    let first = ends.next()?;
+    let last = ends.next().unwrap_or(first);
+    ends.next().is_none().then_some((first, last))
 }
 
 // A class alone, or a range that does not fall.
+#[tactic(auto, using(crate::proofs::Runs::last_unread))]
 fn item(word: &[u8]) -> Option<ClassSet>
     ensures { result ≡ item_of word.now }
 {
-    let mut ends = Pieces::new(word, RANGE_SEPARATOR);
-    let low = class(ends.next()?)?;
-    let Some(last) = ends.next() else {
-        return Some(range(low, low));
-    };
-    let high = class(last)?;
-    if ends.next().is_some() || high < low {
-        return None;
-    }
-    Some(range(low, high))
+    let (first, last) = ends(word)?;
+    range(Class::from_word(first)?, Class::from_word(last)?)
 }
 
 // The class set that a word writes.
+#[tactic(auto, using(crate::proofs::Runs::empty_is, crate::proofs::Naming::set_named))]
 pub fn class_set(word: &[u8]) -> Option<ClassSet>
     ensures value { result ≡ set_of word.now }
     ensures meaning { IfSome result (Named word.now) }
 {
-    if same(word, EMPTY_SET) {
-        return Some(ClassSet::EMPTY);
-    }
-    let mut items = Pieces::new(word, ITEM_SEPARATOR);
     let mut set = ClassSet::EMPTY;
-    while let Some(piece) = items.next() {
+    if word == EMPTY_SET {
+        return Some(set);
+    }
+    for piece in word.split(|byte| *byte == ITEM_SEPARATOR) {
         set = set.union(item(piece)?);
     }
     Some(set)

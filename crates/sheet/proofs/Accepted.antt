@@ -25,7 +25,7 @@ use Rattle.sheet.specs.Acceptable.{tariff_records, line_records, RisingFrom, Put
 use Rattle.sheet.specs.Records.{kind_coded, body_length, tariff_record, line_record, end_record, opening_counts}
 use Rattle.sheet.specs.Reading.{not_ended, due, above, fields_refusal, body_refusal, body_taken, kind_taken, kind_length, placed_or, read_on, new_draft, sheet_outcome}
 use Rattle.sheet.proofs.Codec.{TermsFit, LineFits, tariff_body, line_body, tariff_held, line_held}
-use Rattle.sheet.proofs.Drafts.{through}
+use Rattle.sheet.proofs.Drafts.{whole, coded}
 use Rattle.sheet.proofs.Lengths.{length_tariff_record, length_line_record}
 use Rattle.sheet.proofs.Remaining.{low_after}
 use Rattle.sheet.proofs.Walk.{read_past}
@@ -33,14 +33,15 @@ use Rattle.sheet.proofs.Walk.{read_past}
 -- one record is taken
 record_read : (d : Draft) (place code : ℕ) (kind : Kind) (body rest : List ℕ) → not_ended d.stage ≡ true → kind_coded code ≡ Some kind → due d.stage kind ≡ true → length body ≡ body_length kind → body_refusal d kind body ≡ None → read_on d place 0 (code ∷ (body ++ rest)) ≡ read_on (body_taken d kind body) (place + 1 + body_length kind) 0 rest
 unfolding read_on
-record_read d place code kind body rest going coded is_due size none =
+record_read d place code kind body rest going code_of_kind is_due size none =
     let cut : body ≡ take (body_length kind) (body ++ rest) = sym (take_at body rest (body_length kind) size) in
     let fits : body_length kind ≤ length (body ++ rest) = omega (arith, length-append body rest, size) in
-    let t = through d code (body ++ rest) body kind going coded is_due fits cut in
+    let t = coded d code (body ++ rest) kind going code_of_kind is_due in
+    let w = whole d kind (body ++ rest) body fits cut in
     let next = kind_taken d (kind_coded code) (body ++ rest) in
-    ap (λ w. placed_or place w (read_on next (place + 1) (kind_length (kind_coded code)) (body ++ rest))) (t.why ∙ none)
+    ap (λ w. placed_or place w (read_on next (place + 1) (kind_length (kind_coded code)) (body ++ rest))) (t.why ∙ w.why ∙ none)
     ∙ ap (λ n. read_on next (place + 1) n (body ++ rest)) t.size
-    ∙ ap (λ x. read_on x (place + 1) (body_length kind) (body ++ rest)) t.taken
+    ∙ ap (λ x. read_on x (place + 1) (body_length kind) (body ++ rest)) (t.taken ∙ w.taken)
     ∙ read_past (body_taken d kind body) (place + 1) (body_length kind) (body ++ rest) fits
     ∙ ap (read_on (body_taken d kind body) (place + 1 + body_length kind) 0) (drop_at body rest (body_length kind) size)
 

@@ -1,12 +1,19 @@
 -- A field byte by byte, a number in bytes and back, and one write after another.
-use Rattle.std.proofs.Common.{◌≡◌, ℕ, zero, suc, ◌+◌, ◌*◌, ◌/◌, ◌%◌, ◌^◌, ◌<◌, ◌≤◌, List, [], ◌∷◌, ◌++◌, length, get_or, take, drop, sym, refl, ap, ◌∙◌, mod-eq_of_lt, mul_assoc, add-mul, mul-one, arith, lit<}
+use Rattle.std.proofs.Common.{◌≡◌, ℕ, zero, suc, ◌+◌, ◌*◌, ◌/◌, ◌%◌, ◌^◌, ◌<◌, ◌≤◌, List, Bor, [], ◌∷◌, ◌++◌, length, get_or, take, drop, sym, refl, ap, ◌∙◌, mod-eq_of_lt, mul_assoc, add-mul, mul-one, div-one, arith, lit<}
 use native.Mathlib.Nat.{mod-one, one-le-pow, pow-succ'}
-use lib.Arith.{mod-mul}
+use Rattle.std.proofs.Math.Arith.{mod-mul}
 use Rattle.std.proofs.lemmas.Nat.{div-mul-add, mod-mul-add}
 use Rattle.std.proofs.lemmas.Int.Digits.{number_lt}
-use Rattle.std.specs.Int.Digits.{number_from_digits, number_from_digits_after, AllBelowBase}
-use Rattle.std.proofs.lemmas.List.{drop_more, append_assoc, length-take-le, length-append, length-drop, take_at, drop_at, drop-drop}
-use Rattle.sheet.specs.Fields.{high_first, bytes_at, written}
+use Rattle.std.specs.Int.{bytes_high_first}
+use Rattle.std.specs.Prelude.{All}
+use Rattle.std.proofs.lemmas.Grind.{flat_map-append}
+use Rattle.std.specs.Int.Digits.{number_from_digits, number_from_digits_after}
+use Rattle.std.proofs.lemmas.List.Elements.{All-head, All-tail, recursion_from_All}
+use Rattle.std.proofs.lemmas.List.{drop_more, take_more, append-nil, append_assoc, length-take-le, length-append, length-drop, take_at, drop_at, drop-drop}
+use Rattle.sheet.specs.Fields.{high_first, bytes_at, written, joined}
+
+abbrev pub AreBytes : List ℕ → Type 0
+AreBytes bytes = All (λ b. b < 256) bytes
 
 -- bytes of a body are a part of it
 pub bytes_part : (body : List ℕ) (place n : ℕ) → place + n ≤ length body → bytes_at body place n ≡ take n (drop place body)
@@ -43,16 +50,19 @@ pub number_high_first : (n x : ℕ) → x < 256 ^ n → number_from_digits 256 (
 number_high_first n x fits = omega (arith, after_high_first n 0 x, mod-eq_of_lt fits)
 
 -- bytes are those of the number that they hold
-pub high_first_after : (a : ℕ) (ds : List ℕ) → AllBelowBase 256 ds → high_first (length ds) (number_from_digits_after 256 a ds) ≡ ds
+pub high_first_after : (a : ℕ) (ds : List ℕ) → AreBytes ds → high_first (length ds) (number_from_digits_after 256 a ds) ≡ ds
 unfolding high_first
 high_first_after a [] u = refl
-high_first_after a (d ∷ ds) u = ap (λ x. x ∷ high_first (length ds) (number_from_digits_after 256 (a * 256 + d) ds)) first ∙ ap (λ xs. d ∷ xs) (high_first_after (a * 256 + d) ds u.1)
+high_first_after a (d ∷ ds) u = ap (λ x. x ∷ high_first (length ds) (number_from_digits_after 256 (a * 256 + d) ds)) first ∙ ap (λ xs. d ∷ xs) (high_first_after (a * 256 + d) ds tail)
   where
+    tail : AreBytes ds
+    tail = All-tail (λ b. b < 256) d ds u
+
     quotient : number_from_digits_after 256 (a * 256 + d) ds / 256 ^ length ds ≡ a * 256 + d
-    quotient = ap (λ m. m / 256 ^ length ds) (after_is (a * 256 + d) ds) ∙ div-mul-add (a * 256 + d) (256 ^ length ds) (number_from_digits 256 ds) (number_lt 256 ds u.1)
+    quotient = ap (λ m. m / 256 ^ length ds) (after_is (a * 256 + d) ds) ∙ div-mul-add (a * 256 + d) (256 ^ length ds) (number_from_digits 256 ds) (number_lt 256 ds (recursion_from_All (λ b. b < 256) ds tail))
 
     first : number_from_digits_after 256 (a * 256 + d) ds / 256 ^ length ds % 256 ≡ d
-    first = ap (λ m. m % 256) quotient ∙ mod-mul-add a 256 d u.0
+    first = ap (λ m. m % 256) quotient ∙ mod-mul-add a 256 d (All-head (λ b. b < 256) d ds u)
 
 -- one write after another is one write
 module _ (p : ℕ) (a b space : List ℕ) (fits : p + (length a + length b) ≤ length space) where
@@ -95,5 +105,16 @@ unfolding high_first
 length_high_first zero x = refl
 length_high_first (suc n) x = ap suc (length_high_first n x)
 
-pub joined_length : (a b : List ℕ) (m n : ℕ) → length a ≡ m → length b ≡ n → length (a ++ b) ≡ m + n
-joined_length a b m n size-a size-b = omega (arith, length-append a b)
+-- the bytes of `to_be_bytes`
+pub to_be_bytes_high_first : (n x : ℕ) → bytes_high_first n x ≡ high_first n x
+unfolding high_first
+to_be_bytes_high_first zero x = refl
+to_be_bytes_high_first (suc zero) x = ap (λ b. b % 256 ∷ []) (sym (div-one x))
+to_be_bytes_high_first (suc (suc n)) x = ap (λ bs. x / 256 ^ suc n % 256 ∷ bs) (to_be_bytes_high_first (suc n) x)
+
+-- one part more
+pub joined_more : (parts : List (Bor (List ℕ))) (i : ℕ) (d : Bor (List ℕ)) → i < length parts → joined (take (i + 1) parts) ≡ joined (take i parts) ++ (get_or parts i d).now
+joined_more parts i d within =
+    ap joined (take_more parts i d within)
+    ∙ flat_map-append (λ (part : Bor (List ℕ)). part.now) (take i parts) (get_or parts i d ∷ [])
+    ∙ ap (λ bs. joined (take i parts) ++ bs) (append-nil (get_or parts i d).now)

@@ -1,16 +1,16 @@
 -- A record's body and what it holds are one: each gives the other back.
 use Rattle.std.proofs.Common.{◌≡◌, ℕ, ◌+◌, ◌^◌, ◌<◌, ◌≤◌, List, [], ◌∷◌, ◌++◌, length, get_or, take, drop, sym, ap, ◌∙◌, arith}
-use Rattle.std.specs.Int.Digits.{number_from_digits as number, AllBelowBase}
-use Rattle.std.proofs.ByRecursion.{All-take, All-drop}
+use Rattle.std.specs.Int.Digits.{number_from_digits as number}
+use Rattle.std.proofs.lemmas.List.Elements.{All-take, All-drop}
 use Rattle.std.proofs.lemmas.List.{take_all, take-append-drop, drop-drop, drop_all, drop_more, length-take-le, length-drop}
 use Rattle.tariff.specs.declared.terms.Terms.{Terms}
 use Rattle.lines.specs.declared.states.Line.{Line}
 use Rattle.sheet.specs.Fields.{high_first, field_at}
 use Rattle.sheet.specs.Records.{opening_record, tariff_record, line_record, opening_version, opening_counts, body_tariff, body_terms, body_number, body_line}
-use Rattle.sheet.proofs.Bytes.{bytes_part, high_first_after, number_high_first}
+use Rattle.sheet.proofs.Bytes.{AreBytes, bytes_part, high_first_after, number_high_first}
 
 -- fields in their places, from the last to the first
-module _ (body : List ℕ) (bytes : AllBelowBase 256 body) where
+module _ (body : List ℕ) (bytes : AreBytes body) where
   field_bytes : (p w : ℕ) → p + w ≤ length body → high_first w (field_at body p w) ≡ take w (drop p body)
   field_bytes p w fits =
       let size : length (take w (drop p body)) ≡ w = length-take-le w (drop p body) (rw (length-drop p body) (omega arith)) in

@@ -1,6 +1,7 @@
 -- What holds of a new book, and is kept by open, put and add, holds of every book that is read.
 use Rattle.std.proofs.Common.{◌≡◌, ℕ, zero, suc, ◌+◌, Bool, true, false, leb, List, [], ◌∷◌, length, take, Some, None, Option, refl, subst, arith}
 use Rattle.classes.specs.Outcomes.{Outcome, accepted, refusal}
+use Rattle.classes.proofs.Clash.{clash}
 use Rattle.tariff.specs.declared.terms.Terms.{Terms}
 use Rattle.tariff.specs.Ranges.{checked}
 use Rattle.lines.specs.declared.sets.Counts.{Counts}
@@ -17,7 +18,7 @@ use Rattle.sheet.specs.Reading.{not_ended, due, above, fields_refusal, body_refu
 
 pub no_fields_refusal : (r : Option Refused) → fields_refusal r ≡ None → r ≡ None
 no_fields_refusal None e = refl
-no_fields_refusal (Some x) e = absurd (let z : ◌≡◌ {A = ℕ} 0 1 = cc in omega (arith, z))
+no_fields_refusal (Some x) e = clash cc
 
 -- what an opening, a tariff or a line has to keep
 pub record Kept (P : Contents → Type 0) : Type 0 where
@@ -42,7 +43,7 @@ module _ (P : Contents → Type 0) (keep : Kept P) where
 
   -- a sheet that ends well ends with what was read
   end_keeps : (d : Draft) (place : ℕ) (going : Bool) (b : Contents) → not_ended d.stage ≡ going → P d.contents → finished d place ≡ accepted b → P b
-  end_keeps d place true b at s e = absurd (let wrong : refusal (17, place ∷ []) ≡ accepted b = rw at at e in let z : ◌≡◌ {A = ℕ} 0 1 = cc in omega (arith, z))
+  end_keeps d place true b at s e = absurd (let wrong : refusal (17, place ∷ []) ≡ accepted b = rw at at e in clash cc)
   end_keeps d place false b at s e = let same : accepted d.contents ≡ accepted b = rw at at e in let here : d.contents ≡ b = cc in subst P here s
 
   reading_keeps : (d : Draft) (place n : ℕ) (bytes : List ℕ) (b : Contents) → P d.contents → read_on d place n bytes ≡ accepted b → P b
@@ -57,7 +58,7 @@ module _ (P : Contents → Type 0) (keep : Kept P) where
       next = read_on (kind_taken d (kind_coded x) bytes) (place + 1) (kind_length (kind_coded x)) bytes
 
       by : (r : Option Refused) → record_refusal d x bytes ≡ r → placed_or place r next ≡ accepted b → (P (kind_taken d (kind_coded x) bytes).contents → next ≡ accepted b → P b) → P b
-      by (Some y) why got on = absurd (let z : ◌≡◌ {A = ℕ} 0 1 = cc in omega (arith, z))
+      by (Some y) why got on = clash cc
       by None why got on = on (kind_keeps d (kind_coded x) bytes s (passed (not_ended d.stage) (19, []) (kind_refusal d (kind_coded x) bytes) why).1) got
 
   pub read_keeps : (bytes : List ℕ) (b : Contents) → sheet_outcome bytes ≡ accepted b → P b

@@ -2,7 +2,6 @@
 use Rattle.std.proofs.Common.{◌≡◌, ℕ, ◌+◌, ◌-◌, ◌*◌, ◌<◌, ◌≤◌, leb, List, [], ◌∷◌, ◌++◌, length, get_or, take, drop, Some, None, Option, sym, refl, ap, ◌∙◌, arith}
 use borrow.Rule.Slice.PartMut.{put_mid}
 use Rattle.std.proofs.lemmas.List.{append-nil, take-append-drop, length-append, drop_more, drop_all, drop-drop}
-use Rattle.std.proofs.Math.Nat.{mul-suc}
 use Rattle.tariff.specs.declared.terms.Tariff.{Tariff}
 use Rattle.tariff.specs.declared.terms.Terms.{Terms}
 use Rattle.tariff.specs.Ranges.{numbers_of}
@@ -10,7 +9,9 @@ use Rattle.lines.specs.declared.states.Line.{Line}
 use Rattle.lines.specs.declared.states.LineState.{LineState}
 use Rattle.lines.specs.declared.states.LineState.TheVariants.{Free, Live, Withdrawn}
 use Rattle.contents.specs.declared.contents.Contents.{Contents}
-use Rattle.sheet.specs.Writing.{tariff_bytes, line_bytes, table_bytes, sheet_of, write_refusal}
+use Rattle.std.specs.List.{sum_by}
+use Rattle.std.proofs.lemmas.List.Sums.{sum_by-cons, sum_by-le}
+use Rattle.sheet.specs.Writing.{tariff_bytes, tariff_size, line_bytes, line_size, table_bytes, sheet_of, write_refusal}
 use Rattle.contents.specs.declared.contents.Phase.{Phase}
 use Rattle.contents.specs.declared.contents.Phase.TheVariants.{Blank, Draft, Issued}
 use Rattle.contents.specs.Calls.{unless}
@@ -55,25 +56,40 @@ length_sheet b =
     let lines = table_bytes line_bytes 1 b.lines.states in
     omega (arith, length-append tariffs (lines ++ end_record), length-append lines end_record)
 
--- the records of a table are as long as their number times the longest, at most
-table_most : {A : Type 0} (bytes : A → ℕ → List ℕ) (most : ℕ) → ((x : A) (n : ℕ) → length (bytes x n) ≤ most) → (n : ℕ) (xs : List A) → length (table_bytes bytes n xs) ≤ most * length xs
-table_most bytes most each n [] = omega arith
-table_most bytes most each n (x ∷ xs) =
-    omega (arith, length-append (bytes x n) (table_bytes bytes (n + 1) xs), each x n, table_most bytes most each (n + 1) xs, mul-suc most (length xs))
+-- a record is as long as its size
+tariff_sized : (o : Option Tariff) (n : ℕ) → length (tariff_bytes o n) ≡ tariff_size o
+tariff_sized None n = refl
+tariff_sized (Some t) n = length_tariff_record n (numbers_of t)
 
-tariff_most : (o : Option Tariff) (n : ℕ) → length (tariff_bytes o n) ≤ 31
-tariff_most None n = omega arith
-tariff_most (Some t) n = omega (arith, length_tariff_record n (numbers_of t))
+line_sized : (s : LineState) (n : ℕ) → length (line_bytes s n) ≡ line_size s
+line_sized Free n = refl
+line_sized (Live l) n = length_line_record n l
+line_sized (Withdrawn l) n = refl
 
-line_most : (s : LineState) (n : ℕ) → length (line_bytes s n) ≤ 36
-line_most Free n = omega arith
-line_most (Live l) n = omega (arith, length_line_record n l)
-line_most (Withdrawn l) n = omega arith
+table_sized : {A : Type 0} (bytes : A → ℕ → List ℕ) (size : A → ℕ) → ((x : A) (n : ℕ) → length (bytes x n) ≡ size x) → (n : ℕ) (xs : List A) → length (table_bytes bytes n xs) ≡ sum_by size xs
+table_sized bytes size sized n [] = refl
+table_sized bytes size sized n (x ∷ xs) =
+    omega (arith, length-append (bytes x n) (table_bytes bytes (n + 1) xs), sized x n, table_sized bytes size sized (n + 1) xs, sum_by-cons size x xs)
 
--- the longest sheet: every tariff and every line has a record
-pub sheet_most : (b : Contents) → length b.tariffs ≡ 64 → length b.lines.states ≡ 256 → length (sheet_of b) ≤ 11207
-sheet_most b tariffs lines =
-    omega (arith, length_sheet b, tariffs, lines, table_most tariff_bytes 31 tariff_most 1 b.tariffs, table_most line_bytes 36 line_most 1 b.lines.states)
+tariff_size_most : (o : Option Tariff) → tariff_size o ≤ 31
+tariff_size_most None = omega arith
+tariff_size_most (Some t) = omega arith
+
+line_size_most : (s : LineState) → line_size s ≤ 36
+line_size_most Free = omega arith
+line_size_most (Live l) = omega arith
+line_size_most (Withdrawn l) = omega arith
+
+pub tariffs_most : (tariffs : List (Option Tariff)) → sum_by tariff_size tariffs ≤ length tariffs * 31
+tariffs_most tariffs = sum_by-le tariff_size 31 tariffs (λ k d within. tariff_size_most (get_or tariffs k d))
+
+pub lines_most : (states : List LineState) → sum_by line_size states ≤ length states * 36
+lines_most states = sum_by-le line_size 36 states (λ k d within. line_size_most (get_or states k d))
+
+-- the length of a sheet by the sizes of its records
+pub sheet_sized : (b : Contents) → length (sheet_of b) ≡ 6 + (sum_by tariff_size b.tariffs + (sum_by line_size b.lines.states + 1))
+sheet_sized b =
+    omega (arith, length_sheet b, table_sized tariff_bytes tariff_size tariff_sized 1 b.tariffs, table_sized line_bytes line_size line_sized 1 b.lines.states)
 
 -- a book that is not blank is written where there is room
 pub write_taken : (b : Contents) (space : ℕ) → (b.phase ≡ Blank → ⊥) → length (sheet_of b) ≤ space → write_refusal b space ≡ None

@@ -1,10 +1,11 @@
 -- What is left of a sheet at each stage of reading it, in the words of an acceptable sheet.
 use Rattle.std.proofs.Common.{◌≡◌, ℕ, zero, suc, ◌+◌, ◌<◌, ◌≤◌, Bool, true, false, cond, eqb, leb, List, [], ◌∷◌, ◌++◌, length, take, drop, Some, None, Option, sym, refl, ap, ◌∙◌, subst, arith}
 use Rattle.std.specs.Int.Digits.{AllBelowBase}
-use Rattle.std.proofs.ByRecursion.{All-take}
+use Rattle.std.proofs.lemmas.List.Elements.{All-take, All-tail, All-from_recursion}
 use Rattle.std.proofs.lemmas.List.{append_assoc, take-append-drop, length-take-le, nil_from_length}
 use Rattle.std.proofs.lemmas.Bool.{false≢true, eqb-true, ltb-true, leb-true}
 use Rattle.classes.specs.Outcomes.{Outcome, accepted}
+use Rattle.classes.proofs.Clash.{clash}
 use Rattle.tariff.specs.declared.terms.Terms.{Terms}
 use Rattle.lines.specs.declared.sets.Counts.{Counts}
 use Rattle.lines.specs.declared.states.Line.{Line}
@@ -20,6 +21,7 @@ use Rattle.sheet.specs.declared.reading.Stage.TheVariants.{Start, Tariffs, Lines
 use Rattle.sheet.specs.Acceptable.{tariff_records, line_records, RisingFrom, PutInTurn, AddedInTurn, Acceptable}
 use Rattle.sheet.specs.Records.{kind_coded, body_length, opening_record, tariff_record, line_record, end_record, opening_version, opening_counts, body_tariff, body_terms, body_number, body_line}
 use Rattle.sheet.specs.Reading.{not_ended, due, above, fields_refusal, body_refusal, body_taken, kind_refusal, kind_taken, kind_length, record_refusal, placed_or, finished, read_on, new_draft, sheet_outcome}
+use Rattle.sheet.proofs.Bytes.{AreBytes}
 use Rattle.sheet.proofs.Codec.{opening_again, tariff_again, line_again}
 use Rattle.sheet.proofs.Keeping.{no_fields_refusal}
 use Rattle.sheet.proofs.Walk.{taken_whole}
@@ -69,7 +71,7 @@ low_from (Some m) n h = let more = ltb-true m n h in omega arith
 abbrev draft_of : Contents → Option ℕ → Option ℕ → Stage → Draft
 draft_of b t l s = record { contents = b; stage = s; last_tariff = t; last_line = l }
 
-module _ (b : Contents) (t l : Option ℕ) (body rest : List ℕ) (after : Contents) (bytes : AllBelowBase 256 body) where
+module _ (b : Contents) (t l : Option ℕ) (body rest : List ℕ) (after : Contents) (bytes : AreBytes body) where
   opening_left : length body ≡ 5 → body_refusal (draft_of b t l Start) Opening body ≡ None → Left (body_taken (draft_of b t l Start) Opening body) rest after → Left (draft_of b t l Start) (1 ∷ (body ++ rest)) after
   opening_left size e left = record {
     version = opening_version body;
@@ -127,7 +129,7 @@ code_of n kind e = first (eqb n 1) refl e
   where
     fourth : (x : Bool) → eqb n 4 ≡ x → cond x (Some End) None ≡ Some kind → n ≡ kind_code kind
     fourth true at h = let same : End ≡ kind = cc in eqb-true n 4 at ∙ ap kind_code same
-    fourth false at h = absurd (let z : ◌≡◌ {A = ℕ} 0 1 = cc in omega (arith, z))
+    fourth false at h = clash cc
 
     third : (x : Bool) → eqb n 3 ≡ x → cond x (Some LineKind) (cond (eqb n 4) (Some End) None) ≡ Some kind → n ≡ kind_code kind
     third true at h = let same : LineKind ≡ kind = cc in eqb-true n 3 at ∙ ap kind_code same
@@ -142,7 +144,7 @@ code_of n kind e = first (eqb n 1) refl e
     first false at h = second (eqb n 2) refl h
 
 -- one record more
-module _ (b : Contents) (t l : Option ℕ) (body rest : List ℕ) (after : Contents) (bytes : AllBelowBase 256 body) where
+module _ (b : Contents) (t l : Option ℕ) (body rest : List ℕ) (after : Contents) (bytes : AreBytes body) where
   record_left : (stage : Stage) (kind : Kind) → due stage kind ≡ true → length body ≡ body_length kind → body_refusal (draft_of b t l stage) kind body ≡ None → Left (body_taken (draft_of b t l stage) kind body) rest after → Left (draft_of b t l stage) (kind_code kind ∷ (body ++ rest)) after
   record_left Start Opening is_due size e left = opening_left b t l body rest after bytes size e left
   record_left Start Tariff is_due size e left = absurd (false≢true is_due)
@@ -163,14 +165,14 @@ module _ (b : Contents) (t l : Option ℕ) (body rest : List ℕ) (after : Conte
 
 -- at the end of the input
 ended_left : (stage : Stage) (b : Contents) (t l : Option ℕ) (place : ℕ) (after : Contents) → finished (draft_of b t l stage) place ≡ accepted after → Left (draft_of b t l stage) [] after
-ended_left Start b t l place after e = absurd (let z : ◌≡◌ {A = ℕ} 0 1 = cc in omega (arith, z))
-ended_left Tariffs b t l place after e = absurd (let z : ◌≡◌ {A = ℕ} 0 1 = cc in omega (arith, z))
-ended_left Lines b t l place after e = absurd (let z : ◌≡◌ {A = ℕ} 0 1 = cc in omega (arith, z))
+ended_left Start b t l place after e = clash cc
+ended_left Tariffs b t l place after e = clash cc
+ended_left Lines b t l place after e = clash cc
 ended_left Ended b t l place after e = let same : b ≡ after = cc in (refl, same)
 
 -- a record by its kind, which is due and has its whole body
-kind_left : (d : Draft) (code : ℕ) (kind : Option Kind) (rest : List ℕ) (after : Contents) → kind_coded code ≡ kind → AllBelowBase 256 rest → kind_refusal d kind rest ≡ None → Left (kind_taken d kind rest) (drop (kind_length kind) rest) after → Left d (code ∷ rest) after
-kind_left d code None rest after coded bytes e left = absurd (let z : ◌≡◌ {A = ℕ} 0 1 = cc in omega (arith, z))
+kind_left : (d : Draft) (code : ℕ) (kind : Option Kind) (rest : List ℕ) (after : Contents) → kind_coded code ≡ kind → AreBytes rest → kind_refusal d kind rest ≡ None → Left (kind_taken d kind rest) (drop (kind_length kind) rest) after → Left d (code ∷ rest) after
+kind_left d code None rest after coded bytes e left = clash cc
 kind_left d code (Some kind) rest after coded bytes e left =
     let is_due = passed (due d.stage kind) (19, []) _ e in
     let whole = passed (leb (body_length kind) (length rest)) (17, []) (body_refusal d kind (take (body_length kind) rest)) is_due.1 in
@@ -179,28 +181,28 @@ kind_left d code (Some kind) rest after coded bytes e left =
     let here = record_left d.contents d.last_tariff d.last_line body (drop (body_length kind) rest) after (All-take (λ x. x < 256) (body_length kind) rest bytes) d.stage kind is_due.0 size whole.1 left in
     subst (λ xs. Left d xs after) (ap (λ c. c ∷ (body ++ drop (body_length kind) rest)) (sym (code_of code kind coded)) ∙ ap (λ xs. code ∷ xs) (take-append-drop (body_length kind) rest)) here
 
-reading_left : (d : Draft) (place n : ℕ) (bytes : List ℕ) (after : Contents) → n ≤ length bytes → AllBelowBase 256 bytes → read_on d place n bytes ≡ accepted after → Left d (drop n bytes) after
+reading_left : (d : Draft) (place n : ℕ) (bytes : List ℕ) (after : Contents) → n ≤ length bytes → AreBytes bytes → read_on d place n bytes ≡ accepted after → Left d (drop n bytes) after
 unfolding read_on
 reading_left d place zero [] after fits small e = ended_left d.stage d.contents d.last_tariff d.last_line place after e
 reading_left d place (suc n) [] after fits small e = absurd (omega arith)
-reading_left d place (suc n) (x ∷ bytes) after fits small e = reading_left d (place + 1) n bytes after (omega arith) small.1 e
+reading_left d place (suc n) (x ∷ bytes) after fits small e = reading_left d (place + 1) n bytes after (omega arith) (All-tail (λ b. b < 256) x bytes small) e
 reading_left d place zero (x ∷ bytes) after fits small e =
     by (record_refusal d x bytes) refl e
-    (λ whole got. reading_left (kind_taken d (kind_coded x) bytes) (place + 1) (kind_length (kind_coded x)) bytes after whole small.1 got)
+    (λ whole got. reading_left (kind_taken d (kind_coded x) bytes) (place + 1) (kind_length (kind_coded x)) bytes after whole (All-tail (λ b. b < 256) x bytes small) got)
   where
     next : Outcome Contents
     next = read_on (kind_taken d (kind_coded x) bytes) (place + 1) (kind_length (kind_coded x)) bytes
 
     by : (r : Option Refused) → record_refusal d x bytes ≡ r → placed_or place r next ≡ accepted after → (kind_length (kind_coded x) ≤ length bytes → next ≡ accepted after → Left (kind_taken d (kind_coded x) bytes) (drop (kind_length (kind_coded x)) bytes) after) → Left d (x ∷ bytes) after
-    by (Some y) why got on = absurd (let z : ◌≡◌ {A = ℕ} 0 1 = cc in omega (arith, z))
+    by (Some y) why got on = clash cc
     by None why got on =
         let tested = (passed (not_ended d.stage) (19, []) (kind_refusal d (kind_coded x) bytes) why).1 in
-        kind_left d x (kind_coded x) bytes after refl small.1 tested (on (taken_whole d x bytes why) got)
+        kind_left d x (kind_coded x) bytes after refl (All-tail (λ b. b < 256) x bytes small) tested (on (taken_whole d x bytes why) got)
 
 -- an accepted sheet is acceptable
 pub accepted_acceptable : (bytes : List ℕ) (b : Contents) → AllBelowBase 256 bytes → sheet_outcome bytes ≡ accepted b → Acceptable bytes b
 accepted_acceptable bytes b small e =
-    let all = reading_left new_draft 0 0 bytes b (omega arith) small e in
+    let all = reading_left new_draft 0 0 bytes b (omega arith) (All-from_recursion (λ b. b < 256) bytes small) e in
     let tariffs = all.then in
     let lines = tariffs.then in
     record {

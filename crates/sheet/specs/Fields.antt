@@ -1,5 +1,6 @@
 -- Numbers of fixed width, the high byte first; and bytes that are written over a space.
-use Rattle.std.specs.Prelude.{ℕ, zero, suc, ◌+◌, ◌/◌, ◌%◌, ◌^◌, List, [], ◌∷◌, ◌++◌, length, take, drop, slice_index}
+use Rattle.std.specs.Prelude.{ℕ, zero, suc, ◌+◌, ◌/◌, ◌%◌, ◌^◌, List, [], ◌∷◌, ◌++◌, length, take, drop, slice_index, flat_map}
+use Rattle.std.specs.Borrow.{Bor}
 use Rattle.std.specs.Int.Digits.{number_from_digits}
 
 -- a number in so many bytes
@@ -19,3 +20,7 @@ field_at body place width = number_from_digits 256 (bytes_at body place width)
 -- a space after bytes were written over it, from a place on
 unfoldable pub written : ℕ → List ℕ → List ℕ → List ℕ
 written place bytes space = take place space ++ (bytes ++ drop (place + length bytes) space)
+
+-- the bytes of parts, one after another
+abbrev pub joined : List (Bor (List ℕ)) → List ℕ
+joined parts = flat_map (λ part. part.now) parts

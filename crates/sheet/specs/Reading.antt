@@ -92,17 +92,21 @@ body_taken d End body = record {
   last_line = d.last_line;
 }
 
--- a record of this kind, before the bytes that follow its kind byte
+-- a record of a kind that is due, before the bytes that follow its kind byte
+abbrev pub due_refusal : Draft → Kind → List ℕ → Option Refused
+due_refusal d k rest = unless (nat_le (body_length k) (length rest)) (17, []) (body_refusal d k (take (body_length k) rest))
+
+abbrev pub due_taken : Draft → Kind → List ℕ → Draft
+due_taken d k rest = body_taken d k (take (body_length k) rest)
+
+-- a record of this kind
 abbrev pub kind_refusal : Draft → Option Kind → List ℕ → Option Refused
 kind_refusal d None rest = Some (18, [])
-kind_refusal d (Some k) rest =
-    unless (due d.stage k) (19, [])
-    (unless (nat_le (body_length k) (length rest)) (17, [])
-    (body_refusal d k (take (body_length k) rest)))
+kind_refusal d (Some k) rest = unless (due d.stage k) (19, []) (due_refusal d k rest)
 
 abbrev pub kind_taken : Draft → Option Kind → List ℕ → Draft
 kind_taken d None rest = d
-kind_taken d (Some k) rest = body_taken d k (take (body_length k) rest)
+kind_taken d (Some k) rest = due_taken d k rest
 
 abbrev pub kind_length : Option Kind → ℕ
 kind_length None = 0

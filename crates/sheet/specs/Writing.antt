@@ -30,6 +30,16 @@ line_held_bytes (Some l) n = line_record n l
 abbrev pub line_bytes : LineState → ℕ → List ℕ
 line_bytes s n = line_held_bytes (live_line s) n
 
+-- how long the record is, if there is one
+abbrev pub tariff_size : Option Tariff → ℕ
+tariff_size None = 0
+tariff_size (Some t) = 31
+
+abbrev pub line_size : LineState → ℕ
+line_size Free = 0
+line_size (Live l) = 36
+line_size (Withdrawn l) = 0
+
 -- the records of a table, its numbers counted from n
 abbrev pub table_bytes : {A : Type 0} → (A → ℕ → List ℕ) → ℕ → List A → List ℕ
 table_bytes bytes n [] = []

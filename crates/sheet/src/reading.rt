@@ -1,12 +1,13 @@
 // Reading a tariff sheet: record by record, into a draft.
-ghost use Rattle.std.specs.Prelude.{◌≡◌, ◌+◌, length};
+ghost use Rattle.std.specs.Prelude.{◌≡◌, ◌<◌, ◌≤◌, length, take, drop, None, Some, MatchResult};
 ghost use Rattle.contents.specs.Calls.{answered};
+ghost use Rattle.sheet.specs.declared.refusal.RecordFault.TheVariants.{CutShort};
 ghost use Rattle.sheet.specs.Records.{kind_coded, body_length};
-ghost use Rattle.sheet.specs.Reading.{new_draft, due, not_ended, above, body_refusal, body_taken, record_refusal, kind_taken, kind_length, finished, sheet_outcome};
-ghost use Rattle.sheet.specs.Refusals.{fault_outcome, outcome, left_by};
+ghost use Rattle.sheet.specs.Reading.{new_draft, due, not_ended, above, body_refusal, body_taken, due_refusal, due_taken, record_refusal, kind_taken, kind_length, finished, sheet_outcome};
+ghost use Rattle.sheet.specs.Refusals.{fault_numbered, fault_outcome, outcome, left_by};
 
-use crate::fields::{u8_at, u16_at};
-use crate::records::{Kind, counts_of, line_of, terms_of};
+use crate::fields::bytes_at;
+use crate::records::{Kind, LINE_BODY, OPENING_BODY, TARIFF_BODY, counts_of, line_of, terms_of};
 use crate::refusal::{RecordFault, SheetRefusal};
 use contents::Contents;
 
@@ -36,21 +37,18 @@ impl Stage {
     fn takes(self, kind: Kind) -> bool
         ensures { result ≡ due self kind }
     {
-        match (self, kind) {
-            (Stage::Start, Kind::Opening) => true,
-            (Stage::Tariffs, Kind::Tariff | Kind::Line | Kind::End) => true,
-            (Stage::Lines, Kind::Line | Kind::End) => true,
-            _ => false,
-        }
+        matches!(
+            (self, kind),
+            (Stage::Start, Kind::Opening)
+                | (Stage::Tariffs, Kind::Tariff | Kind::Line | Kind::End)
+                | (Stage::Lines, Kind::Line | Kind::End)
+        )
     }
 
     fn is_open(self) -> bool
         ensures { result ≡ not_ended self }
     {
-        match self {
-            Stage::Ended => false,
-            _ => true,
-        }
+        !matches!(self, Stage::Ended)
     }
 }
 
@@ -58,10 +56,14 @@ impl Stage {
 fn is_above(last: Option<u16>, number: u16) -> bool
     ensures { result ≡ above last number }
 {
-    match last {
-        Some(before) => before < number,
-        None => true,
-    }
+    last.is_none_or(|before| before < number)
+}
+
+// The body at the front of these bytes, and the bytes behind it.
+fn split_body<const N: usize>(rest: &[u8]) -> Result<(&[u8; N], &[u8]), RecordFault>
+    ensures { MatchResult result (λ p. (N ≤ length rest.now) × (p.0.now ≡ take N rest.now) × (p.1.now ≡ drop N rest.now)) (λ fault. (length rest.now < N) × (fault ≡ CutShort)) }
+{
+    rest.split_first_chunk().ok_or(RecordFault::CutShort)
 }
 
 impl Draft {
@@ -76,23 +78,21 @@ impl Draft {
         }
     }
 
-    fn take_opening(&mut self, body: &[u8]) -> Result<(), RecordFault>
-        requires { length body.now ≡ 5 }
+    fn take_opening(&mut self, body: &[u8; OPENING_BODY]) -> Result<(), RecordFault>
         ensures answer { fault_outcome result ≡ answered (body_refusal self.old Kind.Opening body.now) tt }
         ensures after { self.new ≡ left_by (body_refusal self.old Kind.Opening body.now) self.old (body_taken self.old Kind.Opening body.now) }
     {
         self.contents.open(counts_of(body))?;
-        self.contents.version = u8_at(body, 0);
+        self.contents.version = body[0];
         self.stage = Stage::Tariffs;
         Ok(())
     }
 
-    fn take_tariff(&mut self, body: &[u8]) -> Result<(), RecordFault>
-        requires { length body.now ≡ 30 }
+    fn take_tariff(&mut self, body: &[u8; TARIFF_BODY]) -> Result<(), RecordFault>
         ensures answer { fault_outcome result ≡ answered (body_refusal self.old Kind.Tariff body.now) tt }
         ensures after { self.new ≡ left_by (body_refusal self.old Kind.Tariff body.now) self.old (body_taken self.old Kind.Tariff body.now) }
     {
-        let number = u8_at(body, 0);
+        let number = body[0];
         if !is_above(self.last_tariff, u16::from(number)) {
             return Err(RecordFault::NotDue);
         }
@@ -102,12 +102,12 @@ impl Draft {
         Ok(())
     }
 
-    fn take_line(&mut self, body: &[u8]) -> Result<(), RecordFault>
-        requires { length body.now ≡ 35 }
+    // As a tariff is taken, but the width of the number, the call and what is remembered are others.
+    fn take_line(&mut self, body: &[u8; LINE_BODY]) -> Result<(), RecordFault>
         ensures answer { fault_outcome result ≡ answered (body_refusal self.old Kind.Line body.now) tt }
         ensures after { self.new ≡ left_by (body_refusal self.old Kind.Line body.now) self.old (body_taken self.old Kind.Line body.now) }
     {
-        let number = u16_at(body, 0);
+        let number = u16::from_be_bytes(bytes_at(body, 0));
         if !is_above(self.last_line, number) {
             return Err(RecordFault::NotDue);
         }
@@ -117,61 +117,61 @@ impl Draft {
         Ok(())
     }
 
-    fn take_body(&mut self, kind: Kind, body: &[u8]) -> Result<(), RecordFault>
-        requires { length body.now ≡ body_length kind }
-        ensures answer { fault_outcome result ≡ answered (body_refusal self.old kind body.now) tt }
-        ensures after { self.new ≡ left_by (body_refusal self.old kind body.now) self.old (body_taken self.old kind body.now) }
+    // Takes a record of a kind that is due, and answers the bytes behind it.
+    fn take_due<'a>(&mut self, kind: Kind, rest: &'a [u8]) -> Result<&'a [u8], RecordFault>
+        ensures answer { MatchResult result (λ behind. (due_refusal self.old kind rest.now ≡ None) × (behind.now ≡ drop (body_length kind) rest.now)) (λ fault. due_refusal self.old kind rest.now ≡ Some (fault_numbered fault)) }
+        ensures after { self.new ≡ left_by (due_refusal self.old kind rest.now) self.old (due_taken self.old kind rest.now) }
     {
+        // Three arms alike: a body's length is in the type that its call takes.
         match kind {
-            Kind::Opening => self.take_opening(body),
-            Kind::Tariff => self.take_tariff(body),
-            Kind::Line => self.take_line(body),
+            Kind::Opening => {
+                let (body, behind) = split_body(rest)?;
+                self.take_opening(body)?;
+                Ok(behind)
+            }
+            Kind::Tariff => {
+                let (body, behind) = split_body(rest)?;
+                self.take_tariff(body)?;
+                Ok(behind)
+            }
+            Kind::Line => {
+                let (body, behind) = split_body(rest)?;
+                self.take_line(body)?;
+                Ok(behind)
+            }
             Kind::End => {
                 self.stage = Stage::Ended;
-                Ok(())
+                Ok(rest)
             }
         }
     }
 
-    // Takes one record, given by its kind byte and the bytes behind it, and answers the length of its body.
-    fn take_record(&mut self, code: u8, rest: &[u8]) -> Result<usize, RecordFault>
-        ensures answer { fault_outcome result ≡ answered (record_refusal self.old code rest.now) (kind_length (kind_coded code)) }
+    // Takes one record, given by its kind byte and the bytes behind it, and answers the bytes behind its body.
+    fn take_record<'a>(&mut self, code: u8, rest: &'a [u8]) -> Result<&'a [u8], RecordFault>
+        ensures answer { MatchResult result (λ behind. (record_refusal self.old code rest.now ≡ None) × (behind.now ≡ drop (kind_length (kind_coded code)) rest.now)) (λ fault. record_refusal self.old code rest.now ≡ Some (fault_numbered fault)) }
         ensures after { self.new ≡ left_by (record_refusal self.old code rest.now) self.old (kind_taken self.old (kind_coded code) rest.now) }
     {
         if !self.stage.is_open() {
             return Err(RecordFault::NotDue);
         }
-        let Some(kind) = Kind::from_code(code) else {
-            return Err(RecordFault::UnknownKind);
-        };
+        let kind = Kind::try_from(code)?;
         if !self.stage.takes(kind) {
             return Err(RecordFault::NotDue);
         }
-        let length = kind.body_length();
-        if rest.len() < length {
-            return Err(RecordFault::CutShort);
-        }
-        self.take_body(kind, &rest[0..length])?;
-        Ok(length)
+        self.take_due(kind, rest)
     }
 
     // What was read, unless the input ended at this place before the end record.
     fn finish(self, place: usize) -> Result<Contents, SheetRefusal>
         ensures { outcome result ≡ finished self place }
     {
-        let Draft {
-            contents,
-            stage,
-            last_tariff: _,
-            last_line: _,
-        } = self;
-        if stage.is_open() {
+        if self.stage.is_open() {
             return Err(SheetRefusal::Record {
                 place,
                 fault: RecordFault::CutShort,
             });
         }
-        Ok(contents)
+        Ok(self.contents)
     }
 }
 
@@ -180,12 +180,16 @@ pub fn read_sheet(bytes: &[u8]) -> Result<Contents, SheetRefusal>
     ensures { outcome result ≡ sheet_outcome bytes.now }
 {
     let mut draft = Draft::new();
-    let mut place = 0;
-    while place < bytes.len() {
-        match draft.take_record(bytes[place], &bytes[place + 1..]) {
-            Ok(length) => place += 1 + length,
-            Err(fault) => return Err(SheetRefusal::Record { place, fault }),
+    let mut rest = bytes;
+    while let [code, behind @ ..] = rest {
+        // The fault gets its place here; `map_err` and `?` are no shorter.
+        match draft.take_record(*code, behind) {
+            Ok(after) => rest = after,
+            Err(fault) => {
+                let place = bytes.len() - rest.len();
+                return Err(SheetRefusal::Record { place, fault });
+            }
         }
     }
-    draft.finish(place)
+    draft.finish(bytes.len())
 }

@@ -1,9 +1,12 @@
 // The records of a tariff sheet: a kind byte, and a body of fixed length.
 ghost use Rattle.std.specs.Prelude.{◌≡◌, ◌≤◌, length};
+ghost use Rattle.std.specs.Option.{ok_or};
+ghost use Rattle.sheet.specs.declared.refusal.RecordFault.TheVariants.{UnknownKind};
 ghost use Rattle.sheet.specs.Fields.{written};
-ghost use Rattle.sheet.specs.Records.{kind_coded, body_length, opening_counts, body_terms, body_line, opening_record, tariff_record, line_record};
+ghost use Rattle.sheet.specs.Records.{kind_coded, opening_counts, body_terms, body_line, opening_record, tariff_record, line_record};
 
-use crate::fields::{put, put_u16, put_u32, put_u64, u8_at, u16_at, u32_at, u64_at};
+use crate::fields::{bytes_at, put, put_all};
+use crate::refusal::RecordFault;
 use lines::{ClassSet, Counts, Line};
 use tariff::Terms;
 
@@ -17,13 +20,20 @@ const LINE_KIND: u8 = 0x03;
 pub(crate) const END_KIND: u8 = 0x04;
 
 // The length of each record without its kind byte.
-const OPENING_BODY: usize = 5;
+pub(crate) const OPENING_BODY: usize = 5;
 
-const TARIFF_BODY: usize = 30;
+pub(crate) const TARIFF_BODY: usize = 30;
 
-const LINE_BODY: usize = 35;
+pub(crate) const LINE_BODY: usize = 35;
 
-const END_BODY: usize = 0;
+// The length of each record.
+pub(crate) const OPENING_LENGTH: usize = 1 + OPENING_BODY;
+
+pub(crate) const TARIFF_LENGTH: usize = 1 + TARIFF_BODY;
+
+pub(crate) const LINE_LENGTH: usize = 1 + LINE_BODY;
+
+pub(crate) const END_LENGTH: usize = 1;
 
 #[derive(Clone, Copy)]
 pub(crate) enum Kind {
@@ -33,80 +43,68 @@ pub(crate) enum Kind {
     End,
 }
 
-impl Kind {
-    pub(crate) fn from_code(code: u8) -> Option<Kind>
-        ensures { result ≡ kind_coded code }
-    {
-        match code {
-            OPENING_KIND => Some(Kind::Opening),
-            TARIFF_KIND => Some(Kind::Tariff),
-            LINE_KIND => Some(Kind::Line),
-            END_KIND => Some(Kind::End),
-            _ => None,
-        }
-    }
+impl TryFrom<u8> for Kind {
+    type Error = RecordFault;
 
-    // The length of a record without its kind byte.
-    pub(crate) fn body_length(self) -> usize
-        ensures { result ≡ body_length self }
-    {
-        match self {
-            Kind::Opening => OPENING_BODY,
-            Kind::Tariff => TARIFF_BODY,
-            Kind::Line => LINE_BODY,
-            Kind::End => END_BODY,
+    ghost try_from_gives = { λ code kind. kind ≡ ok_or (kind_coded code) UnknownKind };
+
+    fn try_from(code: u8) -> Result<Kind, RecordFault> {
+        match code {
+            OPENING_KIND => Ok(Kind::Opening),
+            TARIFF_KIND => Ok(Kind::Tariff),
+            LINE_KIND => Ok(Kind::Line),
+            END_KIND => Ok(Kind::End),
+            _ => Err(RecordFault::UnknownKind),
         }
     }
 }
 
-pub(crate) fn counts_of(body: &[u8]) -> Counts
-    requires { 5 ≤ length body.now }
+// What a body holds: functions, since `From` may be written only beside one of its two types.
+pub(crate) fn counts_of(body: &[u8; OPENING_BODY]) -> Counts
     ensures { result ≡ opening_counts body.now }
 {
     Counts {
-        vehicles: u8_at(body, 1),
-        times: u8_at(body, 2),
-        locations: u8_at(body, 3),
-        users: u8_at(body, 4),
+        vehicles: body[1],
+        times: body[2],
+        locations: body[3],
+        users: body[4],
     }
 }
 
-pub(crate) fn terms_of(body: &[u8]) -> Terms
-    requires { 30 ≤ length body.now }
+pub(crate) fn terms_of(body: &[u8; TARIFF_BODY]) -> Terms
     ensures { result ≡ body_terms body.now }
 {
     Terms {
-        measure: u8_at(body, 1),
-        unit: u32_at(body, 2),
-        rate: u32_at(body, 6),
-        rounding: u8_at(body, 10),
-        threshold: u32_at(body, 11),
-        offset: u32_at(body, 15),
-        minimum: u32_at(body, 19),
-        cap: u32_at(body, 23),
-        vat: u16_at(body, 27),
-        vat_rounding: u8_at(body, 29),
+        measure: body[1],
+        unit: u32::from_be_bytes(bytes_at(body, 2)),
+        rate: u32::from_be_bytes(bytes_at(body, 6)),
+        rounding: body[10],
+        threshold: u32::from_be_bytes(bytes_at(body, 11)),
+        offset: u32::from_be_bytes(bytes_at(body, 15)),
+        minimum: u32::from_be_bytes(bytes_at(body, 19)),
+        cap: u32::from_be_bytes(bytes_at(body, 23)),
+        vat: u16::from_be_bytes(bytes_at(body, 27)),
+        vat_rounding: body[29],
     }
 }
 
-pub(crate) fn line_of(body: &[u8]) -> Line
-    requires { 35 ≤ length body.now }
+pub(crate) fn line_of(body: &[u8; LINE_BODY]) -> Line
     ensures { result ≡ body_line body.now }
 {
     Line {
-        tariff: u8_at(body, 2),
-        vehicles: ClassSet(u64_at(body, 3)),
-        times: ClassSet(u64_at(body, 11)),
-        locations: ClassSet(u64_at(body, 19)),
-        users: ClassSet(u64_at(body, 27)),
+        tariff: body[2],
+        vehicles: ClassSet(u64::from_be_bytes(bytes_at(body, 3))),
+        times: ClassSet(u64::from_be_bytes(bytes_at(body, 11))),
+        locations: ClassSet(u64::from_be_bytes(bytes_at(body, 19))),
+        users: ClassSet(u64::from_be_bytes(bytes_at(body, 27))),
     }
 }
 
 // Each writer is lent the space from its record's place on, and answers its record's length.
 pub(crate) fn write_opening(space: &mut [u8], version: u8, counts: &Counts) -> usize
-    requires { 6 ≤ length space.old }
+    requires { OPENING_LENGTH ≤ length space.old }
     ensures after { space.new ≡ written 0 (opening_record version counts.now) space.old }
-    ensures value { result ≡ 6 }
+    ensures value { result ≡ OPENING_LENGTH }
 {
     let record = [
         OPENING_KIND,
@@ -120,32 +118,38 @@ pub(crate) fn write_opening(space: &mut [u8], version: u8, counts: &Counts) -> u
 }
 
 pub(crate) fn write_tariff(space: &mut [u8], number: u8, terms: &Terms) -> usize
-    requires { 31 ≤ length space.old }
+    requires { TARIFF_LENGTH ≤ length space.old }
     ensures after { space.new ≡ written 0 (tariff_record number terms.now) space.old }
-    ensures value { result ≡ 31 }
+    ensures value { result ≡ TARIFF_LENGTH }
 {
-    let at = put(space, 0, &[TARIFF_KIND, number, terms.measure]);
-    let at = put_u32(space, at, terms.unit);
-    let at = put_u32(space, at, terms.rate);
-    let at = put(space, at, &[terms.rounding]);
-    let at = put_u32(space, at, terms.threshold);
-    let at = put_u32(space, at, terms.offset);
-    let at = put_u32(space, at, terms.minimum);
-    let at = put_u32(space, at, terms.cap);
-    let at = put_u16(space, at, terms.vat);
-    put(space, at, &[terms.vat_rounding])
+    let parts: [&[u8]; 10] = [
+        &[TARIFF_KIND, number, terms.measure],
+        &terms.unit.to_be_bytes(),
+        &terms.rate.to_be_bytes(),
+        &[terms.rounding],
+        &terms.threshold.to_be_bytes(),
+        &terms.offset.to_be_bytes(),
+        &terms.minimum.to_be_bytes(),
+        &terms.cap.to_be_bytes(),
+        &terms.vat.to_be_bytes(),
+        &[terms.vat_rounding],
+    ];
+    put_all(space, &parts)
 }
 
 pub(crate) fn write_line(space: &mut [u8], number: u16, line: &Line) -> usize
-    requires { 36 ≤ length space.old }
+    requires { LINE_LENGTH ≤ length space.old }
     ensures after { space.new ≡ written 0 (line_record number line.now) space.old }
-    ensures value { result ≡ 36 }
+    ensures value { result ≡ LINE_LENGTH }
 {
-    let at = put(space, 0, &[LINE_KIND]);
-    let at = put_u16(space, at, number);
-    let at = put(space, at, &[line.tariff]);
-    let at = put_u64(space, at, line.vehicles.0);
-    let at = put_u64(space, at, line.times.0);
-    let at = put_u64(space, at, line.locations.0);
-    put_u64(space, at, line.users.0)
+    let parts: [&[u8]; 7] = [
+        &[LINE_KIND],
+        &number.to_be_bytes(),
+        &[line.tariff],
+        &line.vehicles.0.to_be_bytes(),
+        &line.times.0.to_be_bytes(),
+        &line.locations.0.to_be_bytes(),
+        &line.users.0.to_be_bytes(),
+    ];
+    put_all(space, &parts)
 }

@@ -1,9 +1,11 @@
 // Why a sheet is not read or not written.
-ghost use Rattle.std.specs.Prelude.{◌≡◌, [], ◌∷◌};
+ghost use Rattle.std.specs.Prelude.{◌≡◌, [], ◌∷◌, Some};
 ghost use Rattle.contents.specs.Refusals.{numbered as book_numbered};
+ghost use Rattle.contents.specs.Text.{refusal_text};
 ghost use Rattle.sheet.specs.Refusals.{fault_numbered, numbered};
 
 use contents::Refusal;
+use std::fmt;
 
 // What is wrong with a record.
 #[derive(Clone, Copy)]
@@ -27,6 +29,7 @@ pub enum SheetRefusal {
 }
 
 impl SheetRefusal {
+    // A method and no `From`, which would look as if the number said all: a refusal carries values beside it.
     pub fn number(self) -> u8
         ensures { result ≡ (numbered self).0 }
     {
@@ -39,6 +42,7 @@ impl SheetRefusal {
 }
 
 impl RecordFault {
+    // A method, as that of a refusal.
     pub fn number(self) -> u8
         ensures { result ≡ (fault_numbered self).0 }
     {
@@ -64,5 +68,25 @@ impl From<Refusal> for SheetRefusal {
 
     fn from(refusal: Refusal) -> SheetRefusal {
         SheetRefusal::Book(refusal)
+    }
+}
+
+// "1", "19 at 7", "20 at 73 because 11" or "21"
+impl fmt::Display for SheetRefusal {
+    ghost output = { λ r. Some (refusal_text (numbered r)) };
+
+    fn fmt<W: fmt::Write>(&self, f: &mut fmt::Formatter<W>) -> fmt::Result {
+        let number = self.number();
+        match self {
+            SheetRefusal::Book(refusal) => write!(f, "{refusal}"),
+            SheetRefusal::Record { place, fault } => match fault {
+                RecordFault::Refused(refusal) => {
+                    let because = refusal.number();
+                    write!(f, "{number} at {place} because {because}")
+                }
+                _ => write!(f, "{number} at {place}"),
+            },
+            SheetRefusal::SpaceTooShort => write!(f, "{number}"),
+        }
     }
 }

@@ -1,40 +1,40 @@
 // Writing a tariff sheet into a space that is lent, each record from the byte where the one before it ended.
-ghost use Rattle.std.specs.Prelude.{◌≡◌, ℕ, ◌+◌, ◌*◌, ◌≤◌, List, length, ◌<◌, []};
+ghost use Rattle.std.specs.Prelude.{◌≡◌, ℕ, ◌+◌, ◌*◌, ◌≤◌, List, length, ◌<◌, [], sum_by};
 ghost use Rattle.classes.specs.Outcomes.{refusal};
 ghost use Rattle.contents.specs.Calls.{answered};
 ghost use Rattle.sheet.specs.Fields.{written};
-ghost use Rattle.sheet.specs.Writing.{live_line, tariff_bytes, line_bytes, table_bytes, sheet_of, write_refusal};
+ghost use Rattle.sheet.specs.Writing.{tariff_bytes, tariff_size, line_bytes, line_size, table_bytes, sheet_of, write_refusal};
 ghost use Rattle.sheet.specs.Refusals.{outcome, left_by};
 
 use crate::fields::put;
-use crate::records::{END_KIND, write_line, write_opening, write_tariff};
+use crate::records::{
+    END_KIND, END_LENGTH, LINE_LENGTH, OPENING_LENGTH, TARIFF_LENGTH, write_line, write_opening,
+    write_tariff,
+};
 use crate::refusal::SheetRefusal;
 use contents::{Contents, Phase, Refusal};
-use lines::{Line, LineState};
-use tariff::Tariff;
+use lines::{LineState, LineTable};
+use tariff::{Tariff, Terms};
 
 // The longest sheet: an opening, 64 tariffs, 256 lines and an end.
-pub const LONGEST_SHEET: usize = 11_207;
-
-const OPENING_LENGTH: usize = 6;
-
-const TARIFF_LENGTH: usize = 31;
-
-const LINE_LENGTH: usize = 36;
-
-const END_LENGTH: usize = 1;
+pub const LONGEST_SHEET: usize = OPENING_LENGTH
+    + Contents::TARIFFS * TARIFF_LENGTH
+    + LineTable::NUMBERS * LINE_LENGTH
+    + END_LENGTH;
 
 // What stands at a number of a table, and its record, if it has one.
 trait Listed {
     ghost bytes: { Self → ℕ → List ℕ };
 
+    // How long the record is, or 0.
+    ghost size: { Self → ℕ };
+
     // The highest number in a table.
     ghost most: { ℕ };
 
-    // The length of the record, or 0.
     fn record_length(&self) -> usize
-        ensures size { (n : ℕ) → result ≡ length (bytes self.now n) }
-        ensures bound { result ≤ 36 };
+        ensures size { result ≡ size self.now }
+        ensures bound { result ≤ LINE_LENGTH };
 
     // Writes the record, if there is one, and answers its length.
     fn write(&self, number: u16, space: &mut [u8]) -> usize
@@ -44,8 +44,11 @@ trait Listed {
         ensures value { result ≡ length (bytes self.now number) };
 }
 
+// Each asks twice whether there is a record, since all lengths are known before a byte is written.
 impl Listed for Option<Tariff> {
     ghost bytes = { tariff_bytes };
+
+    ghost size = { tariff_size };
 
     ghost most = { 64 };
 
@@ -56,40 +59,34 @@ impl Listed for Option<Tariff> {
         }
     }
 
+    #[tactic(auto, using(crate::proofs::Lengths::written_nothing, crate::proofs::Lengths::length_tariff_record))]
     fn write(&self, number: u16, space: &mut [u8]) -> usize {
         match self {
-            Some(tariff) => write_tariff(space, number as u8, &tariff.terms()),
+            Some(tariff) => write_tariff(space, number as u8, &Terms::from(*tariff)),
             None => 0,
         }
-    }
-}
-
-// The line at a number, if it is live.
-fn live_line(state: &LineState) -> Option<Line>
-    ensures { result ≡ live_line state.now }
-{
-    match state {
-        LineState::Live(line) => Some(*line),
-        _ => None,
     }
 }
 
 impl Listed for LineState {
     ghost bytes = { line_bytes };
 
+    ghost size = { line_size };
+
     ghost most = { 256 };
 
     fn record_length(&self) -> usize {
-        match live_line(self) {
-            Some(_) => LINE_LENGTH,
-            None => 0,
+        match self {
+            LineState::Live(_) => LINE_LENGTH,
+            _ => 0,
         }
     }
 
+    #[tactic(auto, using(crate::proofs::Lengths::written_nothing, crate::proofs::Lengths::length_line_record))]
     fn write(&self, number: u16, space: &mut [u8]) -> usize {
-        match live_line(self) {
-            Some(line) => write_line(space, number, &line),
-            None => 0,
+        match self {
+            LineState::Live(line) => write_line(space, number, line),
+            _ => 0,
         }
     }
 }
@@ -97,14 +94,9 @@ impl Listed for LineState {
 // The length of the records of a table.
 fn table_length<T: Listed>(table: &[T]) -> usize
     requires { length table.now ≤ 256 }
-    ensures value { result ≡ length (table_bytes T.bytes 1 table.now) }
-    ensures bound { result ≤ 36 * length table.now }
+    ensures { result ≡ sum_by T.size table.now }
 {
-    let mut total = 0;
-    for entry in table {
-        total += entry.record_length();
-    }
-    total
+    table.iter().map(|entry| entry.record_length()).sum()
 }
 
 // Writes the records of a table from a place on, and answers the place behind them.
@@ -115,6 +107,7 @@ fn write_table<T: Listed>(table: &[T], space: &mut [u8], start: usize) -> usize
     ensures after { space.new ≡ written start (table_bytes T.bytes 1 table.now) space.old }
     ensures value { result ≡ start + length (table_bytes T.bytes 1 table.now) }
 {
+    // The place is kept here, as each record is lent the space from its place on.
     let mut place = start;
     for (passed, entry) in table.iter().enumerate() {
         place += entry.write(passed as u16 + 1, &mut space[place..]);
@@ -122,13 +115,15 @@ fn write_table<T: Listed>(table: &[T], space: &mut [u8], start: usize) -> usize
     place
 }
 
+#[tactic(auto, using(crate::proofs::Lengths::tariffs_most, crate::proofs::Lengths::lines_most))]
 fn sheet_length(contents: &Contents) -> usize
     ensures value { result ≡ length (sheet_of contents.now) }
     ensures longest { result ≤ LONGEST_SHEET }
 {
-    let tariffs: &[Option<Tariff>] = &contents.tariffs;
-    let lines: &[LineState] = &contents.lines.states;
-    OPENING_LENGTH + table_length(tariffs) + table_length(lines) + END_LENGTH
+    OPENING_LENGTH
+        + table_length(&contents.tariffs)
+        + table_length(&contents.lines.states)
+        + END_LENGTH
 }
 
 // Writes the sheet of these contents from the front of the space, and answers its length.
@@ -143,10 +138,8 @@ pub fn write_sheet(contents: &Contents, space: &mut [u8]) -> Result<usize, Sheet
     if space.len() < sheet_length(contents) {
         return Err(SheetRefusal::SpaceTooShort);
     }
-    let tariffs: &[Option<Tariff>] = &contents.tariffs;
-    let lines: &[LineState] = &contents.lines.states;
     let place = write_opening(space, contents.version, &contents.counts);
-    let place = write_table(tariffs, space, place);
-    let place = write_table(lines, space, place);
+    let place = write_table(&contents.tariffs, space, place);
+    let place = write_table(&contents.lines.states, space, place);
     Ok(put(space, place, &[END_KIND]))
 }

@@ -1,5 +1,5 @@
 -- Numbers in range make a tariff that has those numbers.
-use Rattle.std.proofs.Common.{◌≡◌, ℕ, ◌≤◌, Bool, true, false, cond, Some, None, Option, sym, refl, subst, arith, MatchOption}
+use Rattle.std.proofs.Common.{◌≡◌, ℕ, ◌≤◌, Bool, true, false, cond, Some, None, Ok, Option, sym, refl, subst, arith, MatchOption}
 use Rattle.std.proofs.lemmas.Bool.Decides.{nat_tests}
 use Rattle.tariff.specs.declared.codes.Measure.{Measure}
 use Rattle.tariff.specs.declared.codes.Measure.TheVariants.{Metres, Minutes, Events}
@@ -7,8 +7,9 @@ use Rattle.tariff.specs.declared.codes.Rounding.{Rounding}
 use Rattle.tariff.specs.declared.codes.Rounding.TheVariants.{Up, Down, Nearest}
 use Rattle.tariff.specs.declared.terms.Tariff.{Tariff}
 use Rattle.tariff.specs.declared.terms.Terms.{Terms}
-use Rattle.tariff.specs.Codes.{choice_of, measure_code, measure_coded, rounding_code, rounding_coded}
-use Rattle.tariff.specs.Ranges.{checked, tariff_with, numbers_of, sums_in_range, InRange, SumsInRange}
+use Rattle.std.specs.Option.{ok_or}
+use Rattle.tariff.specs.Codes.{choice_of, measure_code, measure_coded, rounding_code, rounding_coded, out_of_range}
+use Rattle.tariff.specs.Ranges.{checked, tariff_with, numbers_of, sums_in_range, InRange, SumsInRange, Made}
 
 -- a code that is read is the code of what it reads, and is 1, 2 or 3
 pub coded_back : {A : Type 0} (code : A → ℕ) (a b c : A) → code a ≡ 1 → code b ≡ 2 → code c ≡ 3 → (n : ℕ) (x : A) → Some x ≡ choice_of a b c n → (code x ≡ n) × (1 ≤ n) × (n ≤ 3)
@@ -22,6 +23,11 @@ measure_back = coded_back measure_code Metres Minutes Events refl refl refl
 
 pub rounding_back : (n : ℕ) (k : Rounding) → Some k ≡ rounding_coded n → (rounding_code k ≡ n) × (1 ≤ n) × (n ≤ 3)
 rounding_back = coded_back rounding_code Up Down Nearest refl refl refl
+
+-- what is read from a code, and not refused
+pub coded : {A : Type 0} (o : Option A) (x : A) → Ok x ≡ ok_or o out_of_range → Some x ≡ o
+coded None x e = absurd (let z : ◌≡◌ {A = ℕ} 0 1 = cc in omega (arith, z))
+coded (Some y) x e = cc
 
 -- a tariff made from numbers whose sums are in range and whose codes are read
 module _ (p : Terms) (m : Measure) (k v : Rounding) (sums : sums_in_range p ≡ true) (em : Some m ≡ measure_coded p.measure) (ek : Some k ≡ rounding_coded p.rounding) (ev : Some v ≡ rounding_coded p.vat_rounding) where
@@ -42,6 +48,21 @@ module _ (p : Terms) (m : Measure) (k v : Rounding) (sums : sums_in_range p ≡ 
   -- the numbers come back: only the codes were changed, and their codes are the same
   pub made_back : MatchOption (tariff_with p (Some m) (Some k) (Some v)) ⊥ (λ t. numbers_of t ≡ p)
   made_back = rw ((measure_back p.measure m em).0, (rounding_back p.rounding k ek).0, (rounding_back p.vat_rounding v ev).0)
+
+  -- so handing them in gives this tariff
+  pub made : Made p (Ok (record {
+    measure = m;
+    unit = p.unit;
+    rate = p.rate;
+    rounding = k;
+    threshold = p.threshold;
+    offset = p.offset;
+    minimum = p.minimum;
+    «cap» = p.«cap»;
+    vat = p.vat;
+    vat_rounding = v;
+  }))
+  made = record { value = rw (sym made_value) refl; exact = (made_in_range, made_back) }
 
 -- whatever numbers make a tariff are in range, and are its numbers
 pub checked_exact : (p : Terms) (t : Tariff) → checked p ≡ Some t → InRange p × (numbers_of t ≡ p)

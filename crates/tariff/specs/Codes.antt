@@ -2,6 +2,7 @@
 use Rattle.std.specs.Prelude.{ℕ, cond, Some, None, Option, ◌==◌}
 use Rattle.tariff.specs.declared.codes.Measure.{Measure}
 use Rattle.tariff.specs.declared.codes.Measure.TheVariants.{Metres, Minutes, Events}
+use Rattle.tariff.specs.declared.codes.OutOfRange.{OutOfRange}
 use Rattle.tariff.specs.declared.codes.Rounding.{Rounding}
 use Rattle.tariff.specs.declared.codes.Rounding.TheVariants.{Up, Down, Nearest}
 
@@ -24,3 +25,7 @@ measure_coded n = choice_of Metres Minutes Events n
 
 abbrev pub rounding_coded : ℕ → Option Rounding
 rounding_coded n = choice_of Up Down Nearest n
+
+-- what is answered where a number is out of range
+abbrev pub out_of_range : OutOfRange
+out_of_range = record {}

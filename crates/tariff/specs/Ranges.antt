@@ -1,10 +1,13 @@
 -- Which numbers make a tariff. `InRange` says it; `checked` gives the tariff that they make, and `numbers_of` gives the numbers back.
-use Rattle.std.specs.Prelude.{◌≤◌, Bool, cond, ◌&&◌, Some, None, Option, nat_le}
+use Rattle.std.specs.Prelude.{◌≡◌, ◌≤◌, Bool, cond, ◌&&◌, Some, None, Option, Result, MatchOption, nat_le}
+use Rattle.std.specs.Option.{ok_or}
+use Rattle.std.specs.Result.{result_ok}
+use Rattle.tariff.specs.declared.codes.OutOfRange.{OutOfRange}
 use Rattle.tariff.specs.declared.codes.Measure.{Measure}
 use Rattle.tariff.specs.declared.codes.Rounding.{Rounding}
 use Rattle.tariff.specs.declared.terms.Tariff.{Tariff}
 use Rattle.tariff.specs.declared.terms.Terms.{Terms}
-use Rattle.tariff.specs.Codes.{measure_code, measure_coded, rounding_code, rounding_coded}
+use Rattle.tariff.specs.Codes.{measure_code, measure_coded, rounding_code, rounding_coded, out_of_range}
 
 -- the units, sums of money and percentage of a tariff
 pub record SumsInRange (p : Terms) : Type 0 where
@@ -66,3 +69,8 @@ numbers_of t = record {
   vat = t.vat;
   vat_rounding = rounding_code t.vat_rounding;
 }
+
+-- what handing in numbers gives: the tariff that they make exactly if they are in range, and then they are its numbers
+pub record Made (p : Terms) (r : Result Tariff OutOfRange) : Type 0 where
+  pub value : r ≡ ok_or (checked p) out_of_range
+  pub exact : MatchOption (result_ok r) (InRange p → ⊥) (λ t. InRange p × (numbers_of t ≡ p))

@@ -1,69 +1,75 @@
 // The two choices in a tariff, each with the code by which it is handed in: what is measured, and how sums are rounded.
 ghost use Rattle.std.specs.Prelude.{◌≡◌, ◌<◌};
-ghost use Rattle.tariff.specs.Codes.{measure_code, measure_coded, rounding_code, rounding_coded};
+ghost use Rattle.std.specs.Option.{ok_or};
+ghost use Rattle.tariff.specs.Codes.{measure_code, measure_coded, rounding_code, rounding_coded, out_of_range};
 ghost use Rattle.tariff.specs.Quotients.{rounded, raises, Rounded};
 
 #[derive(Clone, Copy)]
 pub enum Measure {
-    Metres,
-    Minutes,
-    Events,
+    Metres = 1,
+    Minutes = 2,
+    Events = 3,
 }
 
 #[derive(Clone, Copy)]
 pub enum Rounding {
-    Up,
-    Down,
-    Nearest,
+    Up = 1,
+    Down = 2,
+    Nearest = 3,
 }
 
-impl Measure {
-    // The measure with this code, if there is one.
-    pub fn from_code(code: u8) -> Option<Measure>
-        ensures { result ≡ measure_coded code }
-    {
+// A code or another number that no tariff has.
+#[derive(Clone, Copy)]
+pub struct OutOfRange;
+
+// Two pairs of conversions alike: one for both would take a trait of its own, and no fewer tables.
+impl TryFrom<u8> for Measure {
+    type Error = OutOfRange;
+
+    ghost try_from_gives = { λ code r. r ≡ ok_or (measure_coded code) out_of_range };
+
+    fn try_from(code: u8) -> Result<Measure, OutOfRange> {
         match code {
-            1 => Some(Measure::Metres),
-            2 => Some(Measure::Minutes),
-            3 => Some(Measure::Events),
-            _ => None,
+            1 => Ok(Measure::Metres),
+            2 => Ok(Measure::Minutes),
+            3 => Ok(Measure::Events),
+            _ => Err(OutOfRange),
         }
     }
+}
 
-    pub fn code(self) -> u8
-        ensures { result ≡ measure_code self }
-    {
-        match self {
-            Measure::Metres => 1,
-            Measure::Minutes => 2,
-            Measure::Events => 3,
+impl From<Measure> for u8 {
+    ghost from_gives = { λ measure code. code ≡ measure_code measure };
+
+    fn from(measure: Measure) -> u8 {
+        measure as u8
+    }
+}
+
+impl TryFrom<u8> for Rounding {
+    type Error = OutOfRange;
+
+    ghost try_from_gives = { λ code r. r ≡ ok_or (rounding_coded code) out_of_range };
+
+    fn try_from(code: u8) -> Result<Rounding, OutOfRange> {
+        match code {
+            1 => Ok(Rounding::Up),
+            2 => Ok(Rounding::Down),
+            3 => Ok(Rounding::Nearest),
+            _ => Err(OutOfRange),
         }
+    }
+}
+
+impl From<Rounding> for u8 {
+    ghost from_gives = { λ rounding code. code ≡ rounding_code rounding };
+
+    fn from(rounding: Rounding) -> u8 {
+        rounding as u8
     }
 }
 
 impl Rounding {
-    // The rounding with this code, if there is one.
-    pub fn from_code(code: u8) -> Option<Rounding>
-        ensures { result ≡ rounding_coded code }
-    {
-        match code {
-            1 => Some(Rounding::Up),
-            2 => Some(Rounding::Down),
-            3 => Some(Rounding::Nearest),
-            _ => None,
-        }
-    }
-
-    pub fn code(self) -> u8
-        ensures { result ≡ rounding_code self }
-    {
-        match self {
-            Rounding::Up => 1,
-            Rounding::Down => 2,
-            Rounding::Nearest => 3,
-        }
-    }
-
     // The quotient of two whole numbers, rounded to a whole number; 0 where the divisor is 0.
     pub fn divide(self, dividend: u64, divisor: u64) -> u64
         ensures value { result ≡ rounded self dividend divisor }

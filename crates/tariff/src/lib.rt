@@ -6,5 +6,5 @@ mod codes;
 mod terms;
 
 pub use charge::{Amounts, Charge};
-pub use codes::{Measure, Rounding};
+pub use codes::{Measure, OutOfRange, Rounding};
 pub use terms::{Tariff, Terms};

@@ -1,10 +1,10 @@
 // A tariff as plain numbers, and as a checked tariff.
-ghost use Rattle.std.specs.Prelude.{◌≡◌, MatchOption};
-ghost use Rattle.tariff.specs.Ranges.{checked, numbers_of, sums_in_range, InRange};
+ghost use Rattle.std.specs.Prelude.{◌≡◌};
+ghost use Rattle.tariff.specs.Ranges.{numbers_of, sums_in_range, Made};
 
-use crate::codes::{Measure, Rounding};
+use crate::codes::{Measure, OutOfRange, Rounding};
 
-// The numbers of a tariff as anyone may hand them in.
+// The numbers of a tariff as anyone may hand them in. The codes are numbers here too, since any may be handed in.
 #[derive(Clone, Copy)]
 pub struct Terms {
     pub measure: u8,
@@ -19,6 +19,7 @@ pub struct Terms {
     pub vat_rounding: u8,
 }
 
+// A type of its own beside the numbers: one for both would have to name its codes' types wherever a tariff is meant.
 // A tariff: rate, threshold, offset, minimum and cap in minor currency units, vat in hundredths of a percent.
 #[derive(Clone, Copy)]
 pub struct Tariff {
@@ -43,31 +44,6 @@ impl Terms {
 
     pub const HIGHEST_VAT: u16 = 10_000;
 
-    // The tariff with these numbers, unless one of them is out of range.
-    pub fn checked(self) -> Option<Tariff>
-        ensures value { result ≡ checked self }
-        ensures exact { MatchOption result (InRange self → ⊥) (λ t. InRange self × (numbers_of t ≡ self)) }
-    {
-        if !self.sums_in_range() {
-            return None;
-        }
-        let measure = Measure::from_code(self.measure)?;
-        let rounding = Rounding::from_code(self.rounding)?;
-        let vat_rounding = Rounding::from_code(self.vat_rounding)?;
-        Some(Tariff {
-            measure,
-            unit: self.unit,
-            rate: self.rate,
-            rounding,
-            threshold: self.threshold,
-            offset: self.offset,
-            minimum: self.minimum,
-            cap: self.cap,
-            vat: self.vat,
-            vat_rounding,
-        })
-    }
-
     fn sums_in_range(&self) -> bool
         ensures { result ≡ sums_in_range self.now }
     {
@@ -82,22 +58,47 @@ impl Terms {
     }
 }
 
-impl Tariff {
-    // The numbers of the tariff, as they were handed in.
-    pub fn terms(&self) -> Terms
-        ensures { result ≡ numbers_of self.now }
-    {
+// The tariff with these numbers, unless one of them is out of range.
+impl TryFrom<Terms> for Tariff {
+    type Error = OutOfRange;
+
+    ghost try_from_gives = { Made };
+
+    fn try_from(terms: Terms) -> Result<Tariff, OutOfRange> {
+        if !terms.sums_in_range() {
+            return Err(OutOfRange);
+        }
+        Ok(Tariff {
+            measure: Measure::try_from(terms.measure)?,
+            unit: terms.unit,
+            rate: terms.rate,
+            rounding: Rounding::try_from(terms.rounding)?,
+            threshold: terms.threshold,
+            offset: terms.offset,
+            minimum: terms.minimum,
+            cap: terms.cap,
+            vat: terms.vat,
+            vat_rounding: Rounding::try_from(terms.vat_rounding)?,
+        })
+    }
+}
+
+// The numbers of a tariff, as they were handed in.
+impl From<Tariff> for Terms {
+    ghost from_gives = { λ tariff terms. terms ≡ numbers_of tariff };
+
+    fn from(tariff: Tariff) -> Terms {
         Terms {
-            measure: self.measure.code(),
-            unit: self.unit,
-            rate: self.rate,
-            rounding: self.rounding.code(),
-            threshold: self.threshold,
-            offset: self.offset,
-            minimum: self.minimum,
-            cap: self.cap,
-            vat: self.vat,
-            vat_rounding: self.vat_rounding.code(),
+            measure: u8::from(tariff.measure),
+            unit: tariff.unit,
+            rate: tariff.rate,
+            rounding: u8::from(tariff.rounding),
+            threshold: tariff.threshold,
+            offset: tariff.offset,
+            minimum: tariff.minimum,
+            cap: tariff.cap,
+            vat: tariff.vat,
+            vat_rounding: u8::from(tariff.vat_rounding),
         }
     }
 }

@@ -2,8 +2,8 @@
 #![tactic(auto)]
 
 use anyhow::anyhow;
-use editing::answers;
-use journal::{Answer, answer_line, refused_line};
+use editing::{Job, answers};
+use journal::{Accepted, Answer, answer_line, refused_line};
 use law::law_of_runs;
 use script::{Command, ScriptError, Step, parse_script};
 use std::fs;
@@ -20,33 +20,33 @@ fn file_bytes(rt: &HostRuntime, name: &[u8]) -> anyhow::Result<Vec<u8>> {
     }
 }
 
-// For each step the bytes of the file that it reads, or none.
-fn sheets_of(rt: &HostRuntime, steps: &[Step<&[u8]>]) -> anyhow::Result<Vec<Vec<u8>>> {
-    let mut sheets = Vec::new(rt.alloc());
-    for step in steps {
-        let sheet = match step.command {
-            Command::Read(name) => file_bytes(rt, name)?,
-            _ => Vec::new(rt.alloc()),
-        };
-        sheets.push(sheet)?;
-    }
-    Ok(sheets)
+// A step with the bytes of the file that it reads, or none.
+fn job_of<'a>(rt: &HostRuntime, step: Step<&'a [u8]>) -> anyhow::Result<Job<'a>> {
+    let sheet = match step.command {
+        Command::Read(name) => file_bytes(rt, name)?,
+        _ => Vec::new(rt.alloc()),
+    };
+    Ok(Job { step, sheet })
 }
 
-// Writes the sheet of a step, if it wrote one.
-fn keep(rt: &HostRuntime, step: &Step<&[u8]>, answer: &Answer) -> anyhow::Result<()> {
-    if let (Command::Write(name), Answer::Wrote(bytes)) = (step.command, answer) {
+// Writes the sheet of a job, if it wrote one.
+fn keep(rt: &HostRuntime, job: &Job, answer: &Answer) -> anyhow::Result<()> {
+    if let (Command::Write(name), Ok(Accepted::Wrote(bytes))) = (job.step.command, answer) {
         fs::write(rt, from_utf8(name)?, bytes.as_slice())?;
     }
     Ok(())
 }
 
+// Each sheet is stored behind its own line, so the lines are not one text here, as they are in editcases.
 fn run_steps(rt: &HostRuntime, steps: &[Step<&[u8]>]) -> anyhow::Result<()> {
-    let sheets = sheets_of(rt, steps)?;
-    let answers = answers(rt.alloc(), steps, sheets.as_slice())?;
-    for (step, answer) in steps.iter().zip(answers.iter()) {
-        rt.println(answer_line(rt.alloc(), step.line, answer)?)?;
-        keep(rt, step, answer)?;
+    let jobs: Vec<Job> = steps
+        .iter()
+        .map(|step| job_of(rt, *step))
+        .try_collect(rt.alloc())?;
+    let answers = answers(rt.alloc(), jobs.as_slice())?;
+    for (job, answer) in jobs.iter().zip(answers.iter()) {
+        rt.println(answer_line(rt.alloc(), job.step.line, answer)?)?;
+        keep(rt, job, answer)?;
     }
     Ok(())
 }
@@ -60,7 +60,7 @@ fn run(rt: &HostRuntime) -> anyhow::Result<()> {
         Err(ScriptError::Refused(line)) => rt.println(refused_line(rt.alloc(), line)?)?,
         Err(ScriptError::NoMemory) => return Err(anyhow!("out of memory")),
     }
-    rt.println("end")?;
+    println!(rt; "end")?;
     Ok(())
 }
 

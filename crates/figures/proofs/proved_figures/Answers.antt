@@ -1,4 +1,4 @@
-use mathlib.Core.Path.{refl}
+use Rattle.std.proofs.Common.{refl}
 use Rattle.tariff.specs.Quotients.{rounded}
 use Rattle.figures.proofs.proved_figures.Goals as goal
 

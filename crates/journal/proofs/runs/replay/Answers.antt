@@ -1,11 +1,8 @@
 use Rattle.std.proofs.Common.{vec_items, sym, ◌∙◌}
 use Rattle.std.proofs.lemmas.List.{length-map}
 use Rattle.journal.specs.Asked.{asked, told}
-use Rattle.journal.proofs.Running.{running_none, running_next, running_all, running_lawful}
+use Rattle.journal.proofs.Running.{running_next, running_all, running_lawful}
 use Rattle.journal.proofs.runs.replay.Goals as goal
-
-pub loop-call-init : goal.loop-call-init
-loop-call-init g c = rw (c.new-answers.ensures.items, c.new-book.ensures) running_none
 
 pub loop-call-preserved : goal.loop-call-preserved
 loop-call-preserved g c =

@@ -1,6 +1,7 @@
-use Rattle.std.proofs.Common.{◌≡◌, ℕ, ◌+◌, ◌≤◌, ◌++◌, length, sym, refl, ap, ◌∙◌, arith, rules}
+use Rattle.std.proofs.Common.{◌≡◌, ℕ, ◌+◌, ◌≤◌, ◌++◌, length, sym, refl, ap, ◌∙◌, arith}
 use Rattle.std.proofs.lemmas.List.{length-append}
 use Rattle.classes.specs.Outcomes.{accepted}
+use Rattle.classes.proofs.Clash.{clash}
 use Rattle.contents.specs.Calls.{answered}
 use Rattle.sheet.specs.Refusals.{left_by}
 use Rattle.sheet.specs.Fields.{written}
@@ -13,23 +14,13 @@ use Rattle.sheet.proofs.writing.write_sheet.Goals as goal
 pub write_opening-place-requires : goal.write_opening-place-requires
 write_opening-place-requires c = omega (arith, length_sheet c.args.contents.now, c.sheet_length.ensures.value, c.if-space-sheet_length.false)
 
-pub write_table-place-requires : goal.write_table-place-requires
-write_table-place-requires c =
-    let size = length_sheet c.args.contents.now in
-    record {
-      numbered = search rules;
-      few = search rules;
-      room = omega (arith, size, c.sheet_length.ensures.value, c.if-space-sheet_length.false, c.write_opening-place.ensures.value, c.write_opening-place.auto.space);
-    }
+pub write_table-place-requires-clause-room : goal.write_table-place-requires-clause-room
+write_table-place-requires-clause-room c =
+    omega (arith, length_sheet c.args.contents.now, c.sheet_length.ensures.value, c.if-space-sheet_length.false, c.write_opening-place.ensures.value, c.write_opening-place.auto.space)
 
-pub write_table-place-requires-2 : goal.write_table-place-requires-2
-write_table-place-requires-2 c =
-    let size = length_sheet c.args.contents.now in
-    record {
-      numbered = search rules;
-      few = search rules;
-      room = omega (arith, size, c.sheet_length.ensures.value, c.if-space-sheet_length.false, c.write_opening-place.ensures.value, c.write_opening-place.auto.space, c.write_table-place.ensures.value, c.write_table-place.auto.space);
-    }
+pub write_table-place-requires-2-clause-room : goal.write_table-place-requires-2-clause-room
+write_table-place-requires-2-clause-room c =
+    omega (arith, length_sheet c.args.contents.now, c.sheet_length.ensures.value, c.if-space-sheet_length.false, c.write_opening-place.ensures.value, c.write_opening-place.auto.space, c.write_table-place.ensures.value, c.write_table-place.auto.space)
 
 pub put-requires : goal.put-requires
 put-requires c =
@@ -60,5 +51,5 @@ returns c =
     record {
       answer = ap accepted answer_length ∙ sym (ap (λ w. answered w (length (sheet_of b))) none);
       after = whole ∙ sym (ap (λ w. left_by w c.args.space.now (written 0 (sheet_of b) c.args.space.now)) none);
-      longest = λ e. absurd (let z : ◌≡◌ {A = ℕ} 0 1 = cc in omega (arith, z));
+      longest = λ e. clash cc;
     }

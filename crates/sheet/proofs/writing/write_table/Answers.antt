@@ -1,4 +1,4 @@
-use Rattle.std.proofs.Common.{◌≡◌, ℕ, ◌+◌, ◌-◌, ◌<◌, ◌≤◌, List, length, get_or, take, drop, sym, refl, ap, ◌∙◌, arith, rules}
+use Rattle.std.proofs.Common.{◌≡◌, ℕ, ◌+◌, ◌-◌, ◌<◌, ◌≤◌, List, length, get_or, take, drop, sym, refl, ap, ◌∙◌, arith}
 use Rattle.std.proofs.lemmas.List.{length-append, length-drop, take_rest}
 use Rattle.sheet.specs.Fields.{written}
 use Rattle.sheet.specs.Writing.{table_bytes}
@@ -14,22 +14,16 @@ left_to_write bytes i table x within here =
 part_length : (space : List ℕ) (place : ℕ) → length (take (length space - place) (drop place space)) ≡ length space - place
 part_length space place = ap length (take_rest space place) ∙ length-drop place space
 
-pub write-place-requires : goal.write-place-requires
-write-place-requires g c =
+pub write-place-requires-clause-room : goal.write-place-requires-clause-room
+write-place-requires-clause-room g c =
     let more = left_to_write g.T.Listed.bytes c.loop-passed.passed c.args.table.now c.index-table-passed.result c.loop-passed-test.true c.index-table-passed.is in
     let part = part_length c.loop-passed.space c.loop-passed.place in
-    record {
-      numbered = omega (arith, c.requires.numbered, c.loop-passed-test.true);
-      room = omega (arith, more, part, c.loop-passed.invariant.0, c.requires.room, c.loop-passed.auto.space);
-    }
+    omega (arith, more, part, c.loop-passed.invariant.place, c.requires.room, c.loop-passed.auto.space)
 
 pub overflow_add-place : goal.overflow_add-place
 overflow_add-place g c =
     let more = left_to_write g.T.Listed.bytes c.loop-passed.passed c.args.table.now c.index-table-passed.result c.loop-passed-test.true c.index-table-passed.is in
-    let inv = c.loop-passed.invariant.0 in
-    let value = c.write-place.ensures.value in
-    let room = c.requires.room in
-    search rules
+    omega (arith, more, c.loop-passed.invariant.place, c.write-place.ensures.value, c.requires.room)
 
 pub loop-passed-preserved : goal.loop-passed-preserved
 loop-passed-preserved g c =
@@ -43,17 +37,18 @@ loop-passed-preserved g c =
     let rest = table_bytes bytes (i + 1 + 1) (drop (i + 1) table) in
     let more = left_to_write bytes i table x c.loop-passed-test.true c.index-table-passed.is in
     let wrote = written_part place record_bytes (take (length space - place) (drop place space)) c.write-place.new.space space (take_rest space place) c.write-place.ensures.after in
-    let fits : place + (length record_bytes + length rest) ≤ length space = omega (arith, more, c.loop-passed.invariant.0, c.requires.room, c.loop-passed.auto.space) in
-    let both = written_then place (place + c.write-place.result) (length record_bytes) (length rest) record_bytes rest space _ _ refl refl wrote refl (ap (λ n. place + n) c.write-place.ensures.value) fits in (
-      omega (arith, more, c.loop-passed.invariant.0, c.write-place.ensures.value),
-      both ∙ ap (λ bs. written place bs space) (sym (table_more bytes (i + 1) i table x c.loop-passed-test.true c.index-table-passed.is)) ∙ c.loop-passed.invariant.1,
-    )
+    let fits : place + (length record_bytes + length rest) ≤ length space = omega (arith, more, c.loop-passed.invariant.place, c.requires.room, c.loop-passed.auto.space) in
+    let both = written_then place (place + c.write-place.result) (length record_bytes) (length rest) record_bytes rest space _ _ refl refl wrote refl (ap (λ n. place + n) c.write-place.ensures.value) fits in
+    record {
+      place = omega (arith, more, c.loop-passed.invariant.place, c.write-place.ensures.value);
+      space = both ∙ ap (λ bs. written place bs space) (sym (table_more bytes (i + 1) i table x c.loop-passed-test.true c.index-table-passed.is)) ∙ c.loop-passed.invariant.space;
+    }
 
 pub returns : goal.returns
 returns g c =
     let i = c.loop-passed.passed in
     let none = table_all g.T.Listed.bytes (i + 1) i c.args.table.now c.loop-passed-test.false in
     record {
-      after = sym (written_nothing c.loop-passed.place c.loop-passed.space) ∙ ap (λ bs. written c.loop-passed.place bs c.loop-passed.space) (sym none) ∙ c.loop-passed.invariant.1;
-      value = omega (arith, ap length none, c.loop-passed.invariant.0);
+      after = sym (written_nothing c.loop-passed.place c.loop-passed.space) ∙ ap (λ bs. written c.loop-passed.place bs c.loop-passed.space) (sym none) ∙ c.loop-passed.invariant.space;
+      value = omega (arith, ap length none, c.loop-passed.invariant.place);
     }

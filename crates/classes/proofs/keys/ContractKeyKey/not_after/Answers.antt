@@ -1,20 +1,10 @@
-use Rattle.std.proofs.Common.{◌<◌, ◌≤◌, length, sym, ◌∙◌, rules}
-use Rattle.classes.specs.Orders.{bytes_differ, bytes_agree, bytes_end}
+use Rattle.std.proofs.Common.{refl, arith}
+use Rattle.std.proofs.lemmas.Bool.Decides.{nat_tests}
+use Rattle.std.proofs.lemmas.Cmp.{same_from_slice_cmp_tested}
+use Rattle.std.specs.Ordering.{is_le, nat_cmp}
+use Rattle.classes.specs.Keys.{bytes_upto}
 use Rattle.classes.proofs.keys.ContractKeyKey.not_after.Goals as goal
 
-pub returns-in-Some : goal.returns-in-Some
-returns-in-Some c =
-    let in_self : c.loop-i.i < length c.args.self.now.text = search rules in
-    let in_other : c.loop-i.i < length c.args.other.now.text = search rules in
-    bytes_differ _ _ c.loop-i.i in_self in_other c.in-Some.before c.in-Some.ensures ∙ sym c.loop-i.invariant
-
-pub loop-i-preserved : goal.loop-i-preserved
-loop-i-preserved c =
-    let in_self : c.loop-i.i < length c.args.self.now.text = search rules in
-    let in_other : c.loop-i.i < length c.args.other.now.text = search rules in
-    c.loop-i.invariant ∙ bytes_agree _ _ c.loop-i.i in_self in_other c.in_default.ensures
-
+-- byte by byte, as the library compares
 pub returns : goal.returns
-returns c =
-    let past : length c.args.self.now.text ≤ c.loop-i.i = search rules in
-    sym (c.loop-i.invariant ∙ bytes_end _ _ c.loop-i.i past)
+returns c = same_from_slice_cmp_tested nat_cmp is_le bytes_upto refl (λ _ _. refl) (λ _ _. refl) (λ x y xs ys o h. grind (arith, nat_tests)) c.args.self.now.text c.args.other.now.text _ c.le.ensures
