@@ -28,10 +28,6 @@ module _ {E : Type 0} (given : E → ℕ) (covers : E → Bool) (count : ℕ) wh
     pub first_class_low : true ≡ (usable count (given e) && covers e) → 1 ≤ given e
     first_class_low h = (applies e (sym h)).low
 
-    -- the entry at i is passed over
-    pub first_class_next : false ≡ (usable count (given e) && covers e) → first_class given covers count (drop i es) ≡ first_class given covers count (drop (i + 1) es)
-    first_class_next h = rw (drop_read es i e within read) (rw (sym h) refl)
-
   tested : (e : E) → Applies given covers count e → (usable count (given e) && covers e) ≡ true
   tested e h = and_from _ _ (and_from _ _ (le-leb 1 (given e) h.low) (le-leb (given e) count h.high)) h.covering
 

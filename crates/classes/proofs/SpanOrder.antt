@@ -11,9 +11,6 @@ module _ {K : Type 0} (upto : K → K → Bool) where
     pub ordered_stops : false ≡ span_follows upto before s → spans_ordered_from upto before (drop i ss) ≡ false
     ordered_stops h = rw (drop_read ss i s within read) (rw (sym h) refl)
 
-    pub ordered_next : true ≡ span_follows upto before s → spans_ordered_from upto before (drop i ss) ≡ spans_ordered_from upto (Some s.high) (drop (i + 1) ss)
-    ordered_next h = rw (drop_read ss i s within read) (rw (sym h) refl)
-
   -- from the test to the facts
   parts : (before : Option K) (s : Span K) (ss : List (Span K)) → spans_ordered_from upto before (s ∷ ss) ≡ true → (after_high upto before s.low ≡ true) × (upto s.low s.high ≡ true) × (spans_ordered_from upto (Some s.high) ss ≡ true)
   parts before s ss h =

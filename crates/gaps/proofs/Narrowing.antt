@@ -10,6 +10,3 @@ module _ {A : Type 0} (f : A → A) (xs ys : List A) (i : ℕ) (so_far : ys ≡ 
       let x : A = get_or ys i d in
       let inside : i < length ys = omega (arith, long, within) in
       ap (set ys i) e ∙ map_over_more f xs ys i x within so_far (get_or_default ys i d x inside)
-
-  pub changed_all : length xs ≤ i → ys ≡ map f xs
-  changed_all past = so_far ∙ rw (take_all i xs past, drop_all i xs past) (append-nil (map f xs))

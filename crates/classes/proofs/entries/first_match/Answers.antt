@@ -1,7 +1,7 @@
 use Rattle.std.proofs.Common.{sym, ap, ◌∙◌}
 use Rattle.std.proofs.lemmas.List.{drop_all}
 use Rattle.classes.specs.Entries.{first_class}
-use Rattle.classes.proofs.FirstMatch.{some_given, none_given, first_class_here, first_class_low, first_class_next, first_applies_at}
+use Rattle.classes.proofs.FirstMatch.{some_given, none_given, first_class_here, first_class_low, first_applies_at}
 use Rattle.classes.proofs.entries.first_match.Goals as goal
 
 pub returns-then-decides : goal.returns-then-decides
@@ -11,12 +11,6 @@ returns-then-decides g c =
     let low = first_class_low m.given (λ e. m.covering e c.args.asked.now) c.args.count c.args.entries.now c.loop-entry.entry-index c.entry-item.result c.loop-entry-test.true c.entry-item.is c.if-decides.ensures in
     let value = c.class.ensures ∙ here c.if-decides.ensures ∙ sym c.loop-entry.invariant in
     record { value = some_given _ _ (rw c.class.ensures low) value; meaning = first_applies_at _ _ _ _ _ value }
-
-pub loop-entry-preserved : goal.loop-entry-preserved
-loop-entry-preserved g c =
-    let m = g.E.Entry in
-    let next = first_class_next m.given (λ e. m.covering e c.args.asked.now) c.args.count c.args.entries.now c.loop-entry.entry-index c.entry-item.result c.loop-entry-test.true c.entry-item.is in
-    c.loop-entry.invariant ∙ next c.if-decides.ensures
 
 pub returns : goal.returns
 returns g c =

@@ -2,7 +2,7 @@ use Rattle.std.proofs.Common.{sym, refl, ap, ◌∙◌}
 use Rattle.std.proofs.lemmas.List.{drop_all}
 use Rattle.std.proofs.lemmas.Bool.{false≢true}
 use Rattle.classes.specs.Spans.{spans_ordered_from}
-use Rattle.classes.proofs.SpanOrder.{ordered_stops, ordered_next, in_order, spans_ordered_back, no_key_twice}
+use Rattle.classes.proofs.SpanOrder.{ordered_stops, in_order, spans_ordered_back, no_key_twice}
 use Rattle.classes.proofs.spans.in_order.Goals as goal
 
 pub returns-then-not-follows : goal.returns-then-not-follows
@@ -15,11 +15,6 @@ returns-then-not-follows g c =
       exact = ((λ e. absurd (false≢true e)), (λ facts. refused ∙ spans_ordered_back upto c.args.spans.now facts));
       apart = λ e. absurd (false≢true e);
     }
-
-pub loop-span-preserved : goal.loop-span-preserved
-loop-span-preserved g c =
-    let upto = g.K.Key.upto in
-    c.loop-span.invariant ∙ ordered_next upto c.args.spans.now c.loop-span.span-index c.span-item.result c.loop-span.before c.loop-span-test.true c.span-item.is c.if-not-follows.ensures
 
 pub returns : goal.returns
 returns g c =
