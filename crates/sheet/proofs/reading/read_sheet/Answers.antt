@@ -20,9 +20,6 @@ loop-rest-preserved c =
     let t = taken c in
     record { within = omega (arith, t.fewer, c.loop-rest.invariant.within); outcome = t.same ∙ c.loop-rest.invariant.outcome }
 
-pub loop-rest-smaller : goal.loop-rest-smaller
-loop-rest-smaller c = (taken c).fewer
-
 pub returns-in-Err : goal.returns-in-Err
 returns-in-Err c =
     let bytes = c.loop-rest.rest.now in

@@ -1,5 +1,5 @@
 use Rattle.std.proofs.Common.{◌≡◌, ℕ, ◌+◌, ◌-◌, ◌<◌, ◌≤◌, List, length, get_or, take, drop, sym, refl, ap, ◌∙◌, arith}
-use Rattle.std.proofs.lemmas.List.{length-append, length-drop, take_rest}
+use Rattle.std.proofs.lemmas.List.{length-append, take_rest}
 use Rattle.sheet.specs.Fields.{written}
 use Rattle.sheet.specs.Writing.{table_bytes}
 use Rattle.sheet.proofs.Bytes.{written_then}
@@ -10,20 +10,6 @@ use Rattle.sheet.proofs.writing.write_table.Goals as goal
 left_to_write : {A : Type 0} (bytes : A → ℕ → List ℕ) (i : ℕ) (table : List A) (x : A) → i < length table → x ≡ get_or table i x → length (table_bytes bytes (i + 1) (drop i table)) ≡ length (bytes x (i + 1)) + length (table_bytes bytes (i + 1 + 1) (drop (i + 1) table))
 left_to_write bytes i table x within here =
     ap length (table_more bytes (i + 1) i table x within here) ∙ length-append (bytes x (i + 1)) (table_bytes bytes (i + 1 + 1) (drop (i + 1) table))
-
-part_length : (space : List ℕ) (place : ℕ) → length (take (length space - place) (drop place space)) ≡ length space - place
-part_length space place = ap length (take_rest space place) ∙ length-drop place space
-
-pub write-place-requires-clause-room : goal.write-place-requires-clause-room
-write-place-requires-clause-room g c =
-    let more = left_to_write g.T.Listed.bytes c.loop-passed.passed c.args.table.now c.index-table-passed.result c.loop-passed-test.true c.index-table-passed.is in
-    let part = part_length c.loop-passed.space c.loop-passed.place in
-    omega (arith, more, part, c.loop-passed.invariant.place, c.requires.room, c.loop-passed.auto.space)
-
-pub overflow_add-place : goal.overflow_add-place
-overflow_add-place g c =
-    let more = left_to_write g.T.Listed.bytes c.loop-passed.passed c.args.table.now c.index-table-passed.result c.loop-passed-test.true c.index-table-passed.is in
-    omega (arith, more, c.loop-passed.invariant.place, c.write-place.ensures.value, c.requires.room)
 
 pub loop-passed-preserved : goal.loop-passed-preserved
 loop-passed-preserved g c =
