@@ -1,8 +1,9 @@
 // The steps of a script as calls.
-ghost use Rattle.std.specs.Prelude.{◌≡◌, map, length, IfOk, vec_len};
+ghost use Rattle.std.specs.Prelude.{◌≡◌, [], map, length, IfOk, vec_items, vec_len, slice_index_or};
 ghost use Rattle.law.specs.Histories.{history_of};
 ghost use Rattle.law.specs.Law.{Lawful};
 ghost use Rattle.script.specs.Commands.{with_names};
+ghost use Rattle.script.specs.Scripts.{plain_step};
 ghost use Rattle.editing.specs.Calls.{asked_whole, command_call, script_calls, script_history};
 
 use classes::{Determinants, Whole};
@@ -10,13 +11,6 @@ use journal::{Answer, Call, replay};
 use script::{Command, Step};
 use sheet::LONGEST_SHEET;
 use std::alloc::{AllocError, Global};
-
-// A step of a script, with the bytes of the file that it reads; no other step uses them.
-#[derive(Drop)]
-pub struct Job<'a> {
-    pub step: Step<&'a [u8]>,
-    pub sheet: Vec<u8>,
-}
 
 // A call whose determinants give everything one class.
 type WholeCall<'a> = Call<'a, Whole, Whole, Whole, Whole>;
@@ -52,21 +46,43 @@ fn call_of<'a>(command: &Command<&[u8]>, sheet: &'a [u8]) -> WholeCall<'a>
     }
 }
 
-// The calls of the jobs.
-fn calls_of<'a>(heap: Global, jobs: &'a [Job]) -> Result<Vec<WholeCall<'a>>, AllocError>
-    ensures { IfOk result (λ calls. map asked_whole calls.items ≡ script_calls jobs.now) }
+// The bytes of the sheet with this place, or none.
+fn sheet_at(sheets: &[Vec<u8>], place: usize) -> &[u8]
+    ensures { result.now ≡ slice_index_or (map vec_items sheets.now) place [] }
 {
-    jobs.iter()
-        .map(|job| call_of(&job.step.command, job.sheet.as_slice()))
+    match sheets.get(place) {
+        Some(sheet) => sheet.as_slice(),
+        None => &[],
+    }
+}
+
+// The calls of the steps, each with the sheet that has its place.
+fn calls_of<'a>(
+    heap: Global,
+    steps: &[Step<&[u8]>],
+    sheets: &'a [Vec<u8>],
+) -> Result<Vec<WholeCall<'a>>, AllocError>
+    ensures { IfOk result (λ calls. map asked_whole calls.items ≡ script_calls (map vec_items sheets.now) (map plain_step steps.now)) }
+{
+    steps
+        .iter()
+        .enumerate()
+        .map(|(place, step)| call_of(&step.command, sheet_at(sheets, place)))
         .collect(heap)
 }
 
-// What a new book answers to the jobs, done one after another.
-pub fn answers(heap: Global, jobs: &[Job]) -> Result<Vec<Answer>, AllocError>
-    ensures many { IfOk result (λ answers. vec_len answers ≡ length jobs.now) }
-    ensures lawful { IfOk result (λ answers. Lawful (script_history jobs.now answers.items)) }
-    ensures answers { IfOk result (λ answers. script_history jobs.now answers.items ≡ history_of (script_calls jobs.now)) }
+// What a new book answers to the steps of a script, made of it one after another. The i-th of the sheets is that of the i-th
+// step, and one that is missing is empty. Two lists: a list of steps that have their sheets would ask callers for a copy of
+// every step, and for a sheet where a step reads none.
+pub fn answers(
+    heap: Global,
+    steps: &[Step<&[u8]>],
+    sheets: &[Vec<u8>],
+) -> Result<Vec<Answer>, AllocError>
+    ensures many { IfOk result (λ answers. vec_len answers ≡ length steps.now) }
+    ensures lawful { IfOk result (λ answers. Lawful (script_history (map vec_items sheets.now) (map plain_step steps.now) answers.items)) }
+    ensures answers { IfOk result (λ answers. script_history (map vec_items sheets.now) (map plain_step steps.now) answers.items ≡ history_of (script_calls (map vec_items sheets.now) (map plain_step steps.now))) }
 {
-    let calls = calls_of(heap, jobs)?;
+    let calls = calls_of(heap, steps, sheets)?;
     replay(heap, calls.as_slice())
 }

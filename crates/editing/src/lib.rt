@@ -3,4 +3,4 @@
 
 mod calls;
 
-pub use calls::{Job, answers};
+pub use calls::answers;

@@ -68,9 +68,9 @@ three_ends ps a z (Some x) (one, two, three) =
     ap ends_between (one ∙ ap (λ r. a.now ∷ r) (two ∙ ap (λ r. x.now ∷ r) three))
 
 -- the ends are those of the first and the last piece, if there is no third
-pub ends_told : (ps : List (List ℕ)) (a last : Bor (List ℕ)) (second third : Option (Bor (List ℕ))) (alone : Bool) (r : Option (Bor (List ℕ) × Bor (List ℕ))) → Cut ps a second third → last ≡ unwrap_or second a → is_some third ≡ not alone → r ≡ then_some alone (a, last)
-    → MatchOption r (ends_between ps ≡ None) (λ p. ends_between ps ≡ ends_of (class_of p.0.now) (class_of p.1.now))
-ends_told ps a last second None true r cut is none gives = rw (gives, is) (two_ends ps a second None cut refl)
-ends_told ps a last second None false r cut is none gives = absurd (true≢false (sym none))
-ends_told ps a last second (Some z) true r cut is none gives = absurd (true≢false none)
-ends_told ps a last second (Some z) false r cut is none gives = rw gives (three_ends ps a z second cut)
+pub ends_told : (ps : List (List ℕ)) (a : Bor (List ℕ)) (second third : Option (Bor (List ℕ))) (alone : Bool) (r : Option (Bor (List ℕ) × Option (Bor (List ℕ)))) → Cut ps a second third → is_some third ≡ not alone → r ≡ then_some alone (a, second)
+    → MatchOption r (ends_between ps ≡ None) (λ p. ends_between ps ≡ ends_of (class_of p.0.now) (class_of (unwrap_or p.1 p.0).now))
+ends_told ps a second None true r cut none gives = rw gives (two_ends ps a second None cut refl)
+ends_told ps a second None false r cut none gives = absurd (true≢false (sym none))
+ends_told ps a second (Some z) true r cut none gives = absurd (true≢false none)
+ends_told ps a second (Some z) false r cut none gives = rw gives (three_ends ps a z second cut)

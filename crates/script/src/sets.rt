@@ -1,6 +1,6 @@
 // Class sets as words: "1,3-5" and the like, and "-" for the empty set.
 ghost use Rattle.std.specs.Prelude.{◌≡◌, ◌≤◌, Some, None, IfSome, MatchOption};
-ghost use Rattle.std.specs.Option.{option_map};
+ghost use Rattle.std.specs.Option.{option_map, unwrap_or};
 ghost use Rattle.script.specs.Sets.{single, class_of, ends_of, item_ends, range_of, item_of, set_of, Named};
 
 use crate::numbers::number;
@@ -58,25 +58,29 @@ fn range(low: Class, high: Class) -> Option<ClassSet>
     Some(set)
 }
 
-// The first and the last end of an item; a class alone is both.
-fn ends(word: &[u8]) -> Option<(&[u8], &[u8])>
+// The first end of an item, and the last if it has one; a class alone is both.
+fn ends(word: &[u8]) -> Option<(&[u8], Option<&[u8]>)>
     ensures { MatchOption result
         (item_ends word.now ≡ None)
-        (λ p. item_ends word.now ≡ ends_of (class_of p.0.now) (class_of p.1.now)) }
+        (λ p. item_ends word.now ≡ ends_of (class_of p.0.now) (class_of (unwrap_or p.1 p.0).now)) }
 {
     let mut ends = word.split(|byte| *byte == RANGE_SEPARATOR);
     let first = ends.next()?;
-    let last = ends.next().unwrap_or(first);
+    let last = ends.next();
     ends.next().is_none().then_some((first, last))
 }
 
-// A class alone, or a range that does not fall.
+// A class alone, which is read once, or a range that does not fall.
 #[tactic(auto, using(crate::proofs::Runs::last_unread))]
 fn item(word: &[u8]) -> Option<ClassSet>
     ensures { result ≡ item_of word.now }
 {
     let (first, last) = ends(word)?;
-    range(Class::from_word(first)?, Class::from_word(last)?)
+    let low = Class::from_word(first)?;
+    match last {
+        Some(last) => range(low, Class::from_word(last)?),
+        None => range(low, low),
+    }
 }
 
 // The class set that a word writes.

@@ -2,7 +2,7 @@
 #![tactic(auto)]
 
 use anyhow::anyhow;
-use editing::{Job, answers};
+use editing::answers;
 use journal::{Accepted, Answer, answer_line, refused_line};
 use law::law_of_runs;
 use script::{Command, ScriptError, Step, parse_script};
@@ -20,18 +20,17 @@ fn file_bytes(rt: &HostRuntime, name: &[u8]) -> anyhow::Result<Vec<u8>> {
     }
 }
 
-// A step with the bytes of the file that it reads, or none.
-fn job_of<'a>(rt: &HostRuntime, step: Step<&'a [u8]>) -> anyhow::Result<Job<'a>> {
-    let sheet = match step.command {
-        Command::Read(name) => file_bytes(rt, name)?,
-        _ => Vec::new(rt.alloc()),
-    };
-    Ok(Job { step, sheet })
+// The bytes of the file that a step reads, or none.
+fn sheet_of(rt: &HostRuntime, step: &Step<&[u8]>) -> anyhow::Result<Vec<u8>> {
+    match step.command {
+        Command::Read(name) => file_bytes(rt, name),
+        _ => Ok(Vec::new(rt.alloc())),
+    }
 }
 
-// Writes the sheet of a job, if it wrote one.
-fn keep(rt: &HostRuntime, job: &Job, answer: &Answer) -> anyhow::Result<()> {
-    if let (Command::Write(name), Ok(Accepted::Wrote(bytes))) = (job.step.command, answer) {
+// Writes the sheet of a step, if it wrote one.
+fn keep(rt: &HostRuntime, step: &Step<&[u8]>, answer: &Answer) -> anyhow::Result<()> {
+    if let (Command::Write(name), Ok(Accepted::Wrote(bytes))) = (step.command, answer) {
         fs::write(rt, from_utf8(name)?, bytes.as_slice())?;
     }
     Ok(())
@@ -39,14 +38,14 @@ fn keep(rt: &HostRuntime, job: &Job, answer: &Answer) -> anyhow::Result<()> {
 
 // Each sheet is stored behind its own line, so the lines are not one text here, as they are in editcases.
 fn run_steps(rt: &HostRuntime, steps: &[Step<&[u8]>]) -> anyhow::Result<()> {
-    let jobs: Vec<Job> = steps
+    let sheets: Vec<Vec<u8>> = steps
         .iter()
-        .map(|step| job_of(rt, *step))
+        .map(|step| sheet_of(rt, step))
         .try_collect(rt.alloc())?;
-    let answers = answers(rt.alloc(), jobs.as_slice())?;
-    for (job, answer) in jobs.iter().zip(answers.iter()) {
-        rt.println(answer_line(rt.alloc(), job.step.line, answer)?)?;
-        keep(rt, job, answer)?;
+    let answers = answers(rt.alloc(), steps, sheets.as_slice())?;
+    for (step, answer) in steps.iter().zip(answers.iter()) {
+        rt.println(answer_line(rt.alloc(), step.line, answer)?)?;
+        keep(rt, step, answer)?;
     }
     Ok(())
 }
