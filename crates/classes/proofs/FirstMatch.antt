@@ -1,8 +1,8 @@
 -- One entry of a list after another.
-use Rattle.std.proofs.Common.{◌≡◌, ℕ, zero, suc, ◌+◌, ◌<◌, ◌≤◌, Bool, true, false, ◌&&◌, leb, List, [], ◌∷◌, length, get_or, drop, Some, None, sym, refl, ⊎_elim, arith}
+use Rattle.std.proofs.Common.{◌≡◌, ℕ, zero, suc, ◌<◌, ◌≤◌, Bool, true, false, ◌&&◌, leb, List, [], ◌∷◌, length, get_or, drop, Some, None, Option, sym, ap, refl, ◌∙◌, ⊎_elim, arith}
 use Rattle.std.proofs.lemmas.Bool.{both_ways, and_parts, and_from, cases_Bool, leb-true, le-leb}
 use Rattle.std.proofs.lemmas.Bool.Decides.{nat_tests}
-use Rattle.classes.specs.Determinants.{class_given}
+use Rattle.classes.specs.Determinants.{class_given, class_number}
 use Rattle.classes.specs.Entries.{usable, first_class, Applies, FirstApplies}
 use Rattle.classes.proofs.Steps.{drop_read}
 
@@ -12,6 +12,10 @@ some_given class n low e = grind (arith, nat_tests)
 
 pub none_given : (n : ℕ) → 0 ≡ n → None ≡ class_given n
 none_given n e = rw (sym e) refl
+
+-- the class of what is given
+number_given : (n : ℕ) → class_number (class_given n) ≡ n
+number_given n = grind (arith, nat_tests)
 
 module _ {E : Type 0} (given : E → ℕ) (covers : E → Bool) (count : ℕ) where
   applies : (e : E) → (usable count (given e) && covers e) ≡ true → Applies given covers count e
@@ -70,3 +74,7 @@ module _ {E : Type 0} (given : E → ℕ) (covers : E → Bool) (count : ℕ) wh
 
   pub first_applies_at : (es : List E) (class : ℕ) → class ≡ first_class given covers count es → FirstApplies given covers count es class
   first_applies_at es class e = rw e (first_applies es)
+
+  -- and so is the class of an answer
+  pub first_applies_given : (es : List E) (answer : Option ℕ) → answer ≡ class_given (first_class given covers count es) → FirstApplies given covers count es (class_number answer)
+  first_applies_given es answer e = first_applies_at es (class_number answer) (ap class_number e ∙ number_given (first_class given covers count es))

@@ -3,3 +3,4 @@ pub mod FirstMatch
 pub mod Orders
 pub mod SpanOrder
 pub mod Steps
+pub mod Ranks

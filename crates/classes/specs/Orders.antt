@@ -1,18 +1,19 @@
--- The laws of the order of byte strings, where the first byte that differs decides.
-use Rattle.std.specs.Prelude.{◌≡◌, ℕ, ◌<◌, Bool, true, false, List, [], ◌∷◌, Some, None, refl}
-use Rattle.std.proofs.Common.{sym, ⊎_elim, arith}
-use Rattle.std.proofs.lemmas.Bool.{cases_order, eq-eqb, ne_eqb, lt-ltb, le-ltb, true≢false, false≢true}
+-- The laws of the orders of keys: of byte strings, where the first byte that differs decides, and of charge objects.
+use Rattle.std.specs.Prelude.{◌≡◌, ℕ, ◌<◌, Bool, true, false, List, [], ◌∷◌, Some, None, ◌==◌, nat_le, refl}
+use Rattle.std.proofs.Common.{sym, ap, ◌∙◌, ⊎_elim, le_of_lt, le_antisymm, le_trans, arith}
+use Rattle.std.proofs.lemmas.Bool.{cases_order, cases_Bool, eq-eqb, ne_eqb, lt-ltb, le-ltb, le-leb, leb-true, leb-false, true≢false, false≢true}
 use Rattle.std.specs.Option.{unwrap_or}
-use Rattle.classes.specs.Keys.{byte_before, bytes_upto}
+use Rattle.classes.specs.declared.keys.ObjectKey.{ObjectKey}
+use Rattle.classes.specs.Keys.{byte_before, bytes_upto, object_upto}
 
 -- two bytes are the same, or one comes before the other
-before_same : (x y : ℕ) → x ≡ y → byte_before x y ≡ None
+pub before_same : (x y : ℕ) → x ≡ y → byte_before x y ≡ None
 before_same x y e = rw (eq-eqb x y e) refl
 
-before_less : (x y : ℕ) → x < y → byte_before x y ≡ Some true
+pub before_less : (x y : ℕ) → x < y → byte_before x y ≡ Some true
 before_less x y h = rw (ne_eqb x y (λ e. omega (arith, h, e)), lt-ltb x y h) refl
 
-before_more : (x y : ℕ) → y < x → byte_before x y ≡ Some false
+pub before_more : (x y : ℕ) → y < x → byte_before x y ≡ Some false
 before_more x y h = rw (ne_eqb x y (λ e. omega (arith, h, e)), le-ltb x y (omega (arith, h))) refl
 
 -- so one byte of each string decides, or the rest does
@@ -75,3 +76,27 @@ bytes_carries [] ys zs h k = refl
 bytes_carries (x ∷ xs) [] zs h k = absurd (false≢true h)
 bytes_carries (x ∷ xs) (y ∷ ys) [] h k = absurd (false≢true k)
 bytes_carries (x ∷ xs) (y ∷ ys) (z ∷ zs) h k = carries_step x y z (bytes_upto xs ys) (bytes_upto ys zs) (bytes_upto xs zs) (bytes_carries xs ys zs) h k
+
+-- the partitions decide where they differ, as two bytes do, and then the objects
+object_step : (a b : ObjectKey) → object_upto a b ≡ unwrap_or (byte_before a.partition b.partition) (nat_le a.object b.object)
+object_step a b = ⊎_elim (λ e. rw e refl) (λ e. rw e refl) (cases_Bool (a.partition == b.partition))
+
+-- of two charge objects one is not after the other
+pub object_total : (a b : ObjectKey) → object_upto a b ≡ false → object_upto b a ≡ true
+object_total a b h =
+    let objects : nat_le a.object b.object ≡ false → nat_le b.object a.object ≡ true = λ more. le-leb _ _ (le_of_lt (leb-false _ _ more)) in
+    object_step b a ∙ total_step a.partition b.partition (nat_le a.object b.object) (nat_le b.object a.object) objects (sym (object_step a b) ∙ h)
+
+-- two charge objects, neither after the other, are the same
+pub object_same : (a b : ObjectKey) → object_upto a b ≡ true → object_upto b a ≡ true → a ≡ b
+object_same a b h k =
+    let key : ℕ → ℕ → ObjectKey = λ partition object. record { partition = partition; object = object } in
+    let step = same_step a.partition b.partition (nat_le a.object b.object) (nat_le b.object a.object) (sym (object_step a b) ∙ h) (sym (object_step b a) ∙ k) in
+    let objects = le_antisymm (leb-true _ _ step.1) (leb-true _ _ step.2) in
+    ap (λ partition. key partition a.object) step.0 ∙ ap (key b.partition) objects
+
+-- "not after" carries through a third charge object
+pub object_carries : (a b c : ObjectKey) → object_upto a b ≡ true → object_upto b c ≡ true → object_upto a c ≡ true
+object_carries a b c h k =
+    let objects : nat_le a.object b.object ≡ true → nat_le b.object c.object ≡ true → nat_le a.object c.object ≡ true = λ x y. le-leb _ _ (le_trans (leb-true _ _ x) (leb-true _ _ y)) in
+    object_step a c ∙ carries_step a.partition b.partition c.partition (nat_le a.object b.object) (nat_le b.object c.object) (nat_le a.object c.object) objects (sym (object_step a b) ∙ h) (sym (object_step b c) ∙ k)

@@ -18,27 +18,38 @@ pub trait Entry<Q> {
 
     fn covers(&self, asked: &Q) -> bool
         ensures { result ≡ covering self.now asked.now };
-}
 
-// Whether the entry decides: it covers what is asked, and its class is from 1 to the count.
-fn decides<Q, E: Entry<Q>>(count: u8, entry: &E, asked: &Q) -> bool
-    ensures { result ≡ (usable count (E.given entry.now) && E.covering entry.now asked.now) }
-{
-    let class = entry.class();
-    class >= 1 && class <= count && entry.covers(asked)
+    // Whether the entry decides: it covers what is asked, and its class is from 1 to the count.
+    fn decides(&self, count: u8, asked: &Q) -> bool
+        ensures { result ≡ (usable count (given self.now) && covering self.now asked.now) }
+    {
+        let class = self.class();
+        class >= 1 && class <= count && self.covers(asked)
+    }
+
+    // The class of the first entry that decides, if one does. An implementation may take out of what is asked, once, what all
+    // its entries need.
+    fn first(count: u8, entries: &[Self], asked: &Q) -> Option<u8>
+    where
+        Self: Sized,
+        ensures { result ≡ class_given (first_class given (λ e. covering e asked.now) count entries.now) }
+    {
+        for entry in entries {
+            if entry.decides(count, asked) {
+                return Some(entry.class());
+            }
+        }
+        None
+    }
 }
 
 // The class of the first entry that decides, if one does.
+#[tactic(auto, using(crate::proofs::FirstMatch::first_applies_given))]
 pub fn first_match<Q, E: Entry<Q>>(count: u8, entries: &[E], asked: &Q) -> Option<u8>
     ensures value { result ≡ class_given (first_class E.given (λ e. E.covering e asked.now) count entries.now) }
     ensures meaning { FirstApplies E.given (λ e. E.covering e asked.now) count entries.now (class_number result) }
 {
-    for entry in entries {
-        if decides(count, entry, asked) {
-            return Some(entry.class());
-        }
-    }
-    None
+    E::first(count, entries, asked)
 }
 
 // Classes by the first entry that covers the usage.

@@ -11,10 +11,10 @@ use std::fmt;
 // The place of a determinant among the four.
 #[derive(Clone, Copy)]
 pub enum Role {
-    Vehicle = 1,
-    Time = 2,
-    Location = 3,
-    User = 4,
+    Vehicle,
+    Time,
+    Location,
+    User,
 }
 
 #[derive(Clone, Copy)]
@@ -35,7 +35,12 @@ impl Role {
     pub fn number(self) -> u8
         ensures { result ≡ role_number self }
     {
-        self as u8
+        match self {
+            Role::Vehicle => 1,
+            Role::Time => 2,
+            Role::Location => 3,
+            Role::User => 4,
+        }
     }
 }
 

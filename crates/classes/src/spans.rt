@@ -2,7 +2,7 @@
 ghost use Rattle.std.specs.Prelude.{◌≡◌, true, Decides};
 ghost use Rattle.classes.specs.Spans.{span_class, span_covers, span_follows, spans_ordered, InOrder, NoKeyTwice};
 
-use crate::entries::{Entry, Listed};
+use crate::entries::{Entry, Listed, first_match};
 use crate::keys::{ContractKey, Key, ObjectKey, UsageKey};
 use crate::usage::Usage;
 
@@ -15,6 +15,13 @@ pub struct Span<K> {
 }
 
 impl<K: Key> Span<K> {
+    // The class that the span gives, whatever it is asked with.
+    pub fn class(&self) -> u8
+        ensures { result ≡ span_class self.now }
+    {
+        self.class
+    }
+
     // Whether the key is neither before the low nor after the high.
     fn holds(&self, key: &K) -> bool
         ensures { result ≡ span_covers K.upto self.now key.now }
@@ -36,7 +43,7 @@ impl<K: Key> Entry<K> for Span<K> {
     ghost covering = { span_covers K.Key.upto };
 
     fn class(&self) -> u8 {
-        self.class
+        Span::class(self)
     }
 
     fn covers(&self, key: &K) -> bool {
@@ -56,6 +63,11 @@ impl<K: UsageKey> Entry<Usage> for Span<K> {
 
     fn covers(&self, usage: &Usage) -> bool {
         self.holds(&K::of(usage))
+    }
+
+    // The key is taken once, and not for each span.
+    fn first(count: u8, spans: &[Span<K>], usage: &Usage) -> Option<u8> {
+        first_match(count, spans, &K::of(usage))
     }
 }
 

@@ -15,6 +15,13 @@ pub struct Period {
 }
 
 impl Period {
+    // The class that the period gives, whatever it is asked with.
+    pub fn class(&self) -> u8
+        ensures { result ≡ period_class self.now }
+    {
+        self.class
+    }
+
     // Whether the bit of the instant's weekday is set.
     fn runs_on(&self, instant: &Instant) -> bool
         ensures { result ≡ has_bit self.now.days (weekday_of instant.now) }
@@ -37,7 +44,7 @@ impl Entry<Instant> for Period {
     ghost covering = { period_covers };
 
     fn class(&self) -> u8 {
-        self.class
+        Period::class(self)
     }
 
     fn covers(&self, instant: &Instant) -> bool {

@@ -6,16 +6,16 @@ ghost use Rattle.tariff.specs.Quotients.{rounded, raises, Rounded};
 
 #[derive(Clone, Copy)]
 pub enum Measure {
-    Metres = 1,
-    Minutes = 2,
-    Events = 3,
+    Metres,
+    Minutes,
+    Events,
 }
 
 #[derive(Clone, Copy)]
 pub enum Rounding {
-    Up = 1,
-    Down = 2,
-    Nearest = 3,
+    Up,
+    Down,
+    Nearest,
 }
 
 // A code or another number that no tariff has.
@@ -42,7 +42,11 @@ impl From<Measure> for u8 {
     ghost from_gives = { λ measure code. code ≡ measure_code measure };
 
     fn from(measure: Measure) -> u8 {
-        measure as u8
+        match measure {
+            Measure::Metres => 1,
+            Measure::Minutes => 2,
+            Measure::Events => 3,
+        }
     }
 }
 
@@ -65,7 +69,11 @@ impl From<Rounding> for u8 {
     ghost from_gives = { λ rounding code. code ≡ rounding_code rounding };
 
     fn from(rounding: Rounding) -> u8 {
-        rounding as u8
+        match rounding {
+            Rounding::Up => 1,
+            Rounding::Down => 2,
+            Rounding::Nearest => 3,
+        }
     }
 }
 
