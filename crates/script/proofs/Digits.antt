@@ -21,7 +21,7 @@ value_grows : (n : ℕ) (bs : List ℕ) → n ≤ value_behind n bs
 value_grows n [] = omega arith
 value_grows n (b ∷ bs) = omega (arith, value_grows (n * 10 + (b - 48)) bs)
 
-too_large : (most n : ℕ) (bs : List ℕ) → most < n → None ≡ read_on most n bs
+pub too_large : (most n : ℕ) (bs : List ℕ) → most < n → None ≡ read_on most n bs
 too_large most n bs above = sym (cond-false _ _ _ (and_right (digits_only bs) _ (lt-leb (value_behind n bs) most (omega (arith, value_grows n bs)))))
 
 module _ (most n : ℕ) (bs : List ℕ) (i : ℕ) (within : i < length bs) where

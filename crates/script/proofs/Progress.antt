@@ -44,7 +44,7 @@ module _ (text : List ℕ) (n i : ℕ) (line : List ℕ) (given : NthLine text n
     given = ap (λ s. s ++ steps_from (n + 1 + 1) (drop (n + 1) (pieces 10 text))) (put ∙ ap (λ k. steps ++ line_steps (k + 1) line) next.0) ∙ append_assoc steps (line_steps (n + 1) line) (steps_from (n + 1 + 1) (drop (n + 1) (pieces 10 text))) ∙ ap (λ ls. steps ++ steps_from (n + 1) ls) (sym line_next) ∙ old.given;
   }
 
-  refused_here : (steps : List (Step Word)) → Sofar text n steps → is_sound line ≡ false → Err (n + 1) ≡ script_of text
+  pub refused_here : (steps : List (Step Word)) → Sofar text n steps → is_sound line ≡ false → Err (n + 1) ≡ script_of text
   refused_here steps old unsound =
       let here : Some (n + 1) ≡ first_unsound 1 (pieces 10 text) = sym (ap (first_unsound (n + 1)) line_next ∙ ap (λ t. cond t (first_unsound (n + 1 + 1) (drop (n + 1) (pieces 10 text))) (Some (n + 1))) unsound) ∙ old.unsound in
       ap (λ o. unless_refused o (steps_from 1 (pieces 10 text))) here
